@@ -1,0 +1,300 @@
+-- Signs of rounded differences and quotients, and what a quarter, a magnitude and the smaller of two are no larger than. Assumes nothing.
+use mathlib.Core.Path.{_≡_, refl, sym, ap, _∙_, subst}
+use mathlib.Core.Logic.{inl, inr}
+use Prim.Native.Nat.{ℕ, zero, suc, _+_, _-_, _*_, _^_, _≤_, _<_, zero-le}
+use native.Mathlib.Nat.{suc-mul, add-mul, mul-sub, mul-comm, mul-assoc, le-of-lt, le-trans, le-of-eq, lt-of-lt-of-le, lt-of-le-of-lt, lt-irrefl, eq-zero-or-pos, mul-right-comm, zero-mul, one-mul, mul-pos, mul-le-mul-right, mul-le-mul-left, zero-lt-suc}
+use native.Mathlib.Omega.{arith}
+use mathlib.Core.Bool.{Bool, true, false, not, cond, true≢false}
+use lib.IntN.{ℤ, pos}
+use lib.Dec.{T, ltb, ltb→lt, lt→ltb, nltb→le}
+use lib.Pow.{pow-pos}
+use lib.Ieee.{Float, nan, inf, fin, binary64, up, down, below, unlike, odd, units, round, sum, sub, mul, div, lt, le, fits, ofBits, isNan}
+use lib.Ieee.Fits.{up-pos, down-pos, round-is}
+use lib.Ieee.Exact.{HasValue, round-exact}
+use lib.Ieee.Order.{round-mono}
+use lib.Ieee.Positive.{first-pos}
+use borrow.Author.Tests.{ne-eqb, lt-ltb, le-ltb}
+use Rattle.float.specs.Numbers.{_⊖_, _⊗_, _⊘_, finite, magnitude, smaller}
+use Rattle.float.specs.Constants.{nought, quarter}
+use Rattle.float.proofs.Nan.{real}
+use Rattle.float.proofs.Scalars.{zero-exponent}
+use Rattle.float.proofs.Order.{sign, top, bottom, AtMost, AtMost→le, le→AtMost, le-real, le-self, lt→le, lt-le-trans}
+use Rattle.float.proofs.Values.{held, Units, in-units, round-own}
+
+-- ---- what is above zero, and what is not below it
+
+-- a number is above zero where it is not negative and not zero
+fin-above : (s : Bool) (m : ℕ) (e : ℤ) → T (lt nought (fin s m e)) → (s ≡ false) × (0 < m)
+unfolding lt ofBits
+fin-above true m e t = absurd t
+fin-above false m e t = (refl, first-pos m (up e) (first-pos (m * up e) 1 (lt-of-le-of-lt zero-le (ltb→lt (0 * down e) (m * up e * 1) t))))
+
+above-fin : (s : Bool) (m : ℕ) (e : ℤ) → s ≡ false → 0 < m → T (lt nought (fin s m e))
+unfolding lt ofBits
+above-fin true m e h M = absurd (true≢false h)
+above-fin false m e h M = lt→ltb (0 * down e) (m * up e * 1) (lt-of-le-of-lt (le-of-eq (zero-mul (down e))) (mul-pos (mul-pos M (up-pos e)) (zero-lt-suc 0)))
+
+inf-above : (s : Bool) → T (lt nought (inf s)) → s ≡ false
+unfolding lt ofBits
+inf-above true t = absurd t
+inf-above false t = refl
+
+above-inf : (s : Bool) → s ≡ false → T (lt nought (inf s))
+unfolding lt ofBits
+above-inf true e = absurd (true≢false e)
+above-inf false e = tt
+
+-- what has no minus is not below zero
+pub not-negative : (x : Float) → T (real x) → sign x ≡ false → T (le nought x)
+unfolding ofBits isNan
+not-negative x r e = AtMost→le nought x tt r (at (sign x) e)
+  where
+    at : (s : Bool) → s ≡ false → AtMost false (0 * 1) 1 s (top x) (bottom x)
+    at false e = le-trans (le-of-eq (zero-mul (bottom x))) zero-le
+    at true e = absurd (true≢false e)
+
+-- and neither is a zero
+pub zero-not-negative : (s : Bool) (e : ℤ) → T (le nought (fin s zero e))
+unfolding ofBits isNan
+zero-not-negative s e = AtMost→le nought (fin s zero e) tt tt (at s)
+  where
+    at : (s : Bool) → AtMost false (0 * 1) 1 s (0 * up e) (down e)
+    at false = le-trans (le-of-eq (zero-mul (down e))) zero-le
+    at true = (refl, zero-mul (up e))
+
+no-negative : (m : ℕ) (e : ℤ) → T (le nought (fin true (suc m) e)) → ⊥
+unfolding ofBits
+no-negative m e t = lt-irrefl 0 (lt-of-lt-of-le (mul-pos (zero-lt-suc m) (up-pos e)) (le-of-eq (le→AtMost nought (fin true (suc m) e) t .1)))
+
+-- ---- rounding keeps the sign
+pub odd-sign : (d : ℕ) (s : Bool) (q k l : ℕ) → sign (odd d s q k l) ≡ s
+unfolding odd
+odd-sign d s zero k l = refl
+odd-sign d s (suc q) k l = refl
+
+units-sign : (s : Bool) (q k : ℕ) → sign (units binary64 s q k) ≡ s
+unfolding units
+units-sign s q k = go (ltb (q * 2 ^ k) (2 ^ 2098))
+  where
+    go : (b : Bool) → sign (cond b (odd 54 s q k 1074) (inf s)) ≡ s
+    go true = odd-sign 54 s q k 1074
+    go false = refl
+
+round-sign : (s : Bool) (n c : ℕ) → sign (round binary64 s n c) ≡ s
+round-sign s n c = ap sign (round-is binary64 s n c) ∙ units-sign s _ _
+
+-- a fraction that rounds to a number above zero is above zero itself
+negative-not : (x : Float) → sign x ≡ true → T (lt nought x) → ⊥
+unfolding lt ofBits
+negative-not nan e t = t
+negative-not (inf true) e t = t
+negative-not (inf false) e t = true≢false (sym e)
+negative-not (fin true m k) e t = t
+negative-not (fin false m k) e t = true≢false (sym e)
+
+zero-not : (x : Float) (s : Bool) (c : ℕ) → 0 < c → HasValue x s 0 c → T (lt nought x) → ⊥
+unfolding lt ofBits
+zero-not nan s c C v t = v
+zero-not (inf u) s c C v t = v
+zero-not (fin u m e) s c C v t = lt-irrefl 0 (lt-of-lt-of-le (mul-pos (mul-pos (fin-above u m e t .1) (up-pos e)) C) (le-of-eq (v .1 ∙ zero-mul (down e))))
+
+round-zero : (s : Bool) (c : ℕ) → 0 < c → HasValue (round binary64 s 0 c) s 0 c
+round-zero s c C = round-exact binary64 s 0 c 0 0 C (pow-pos 53) (pow-pos 2098) (zero-mul (2 ^ 1074) ∙ sym (zero-mul c))
+
+pub round-above : (s : Bool) (n c : ℕ) → 0 < c → T (lt nought (round binary64 s n c)) → (s ≡ false) × (0 < n)
+round-above true n c C t = absurd (negative-not (round binary64 true n c) (round-sign true n c) t)
+round-above false n c C t = (
+  refl,
+  elim (eq-zero-or-pos n) [ inl e ↦ absurd (zero-not (round binary64 false 0 c) false c C (round-zero false c C) (subst (λ (z : ℕ). T (lt nought (round binary64 false z c))) e t)) | inr p ↦ p ],
+)
+
+-- ---- a difference above zero: ±a / c less ±b / c
+apart : (s t : Bool) (a b c : ℕ) → 0 < c → T (lt nought (sum binary64 s a (not t) b c)) → T (below t b s a)
+unfolding sum
+apart false false a b c C h = go (ltb a b) h
+  where
+    less-pos : (a b : ℕ) → 0 < a - b → b < a
+    less-pos a b h = omega arith
+
+    go : (x : Bool) → T (lt nought (cond x (round binary64 true (b - a) c) (round binary64 false (a - b) c))) → T (ltb b a)
+    go true k = absurd (true≢false (round-above true (b - a) c C k .0))
+    go false k = lt→ltb b a (less-pos a b (round-above false (a - b) c C k .1))
+apart false true a b c C h = lt→ltb 0 (b + a) (flip a b (round-above false (a + b) c C h .1))
+  where
+    flip : (a b : ℕ) → 0 < a + b → 0 < b + a
+    flip a b h = omega arith
+apart true false a b c C h = absurd (true≢false (round-above true (a + b) c C h .0))
+apart true true a b c C h = go (ltb a b) (ltb b a) (nltb→le b a) h
+  where
+    no : (a b : ℕ) → 0 < a - b → a ≤ b → ⊥
+    no a b h k = omega arith
+
+    go : (x y : Bool) → (T (not y) → a ≤ b) → T (lt nought (cond x (round binary64 false (b - a) c) (round binary64 y (a - b) c))) → T x
+    go true y n k = tt
+    go false true n k = absurd (true≢false (round-above true (a - b) c C k .0))
+    go false false n k = absurd (no a b (round-above false (a - b) c C k .1) (n tt))
+
+pub sub-above : (x y : Float) → T (lt nought (x ⊖ y)) → T (lt y x)
+unfolding sub lt ofBits
+sub-above nan y h = absurd h
+sub-above (inf s) nan h = absurd h
+sub-above (inf true) (inf true) h = absurd h
+sub-above (inf true) (inf false) h = absurd h
+sub-above (inf false) (inf true) h = tt
+sub-above (inf false) (inf false) h = absurd h
+sub-above (inf true) (fin t n d) h = absurd h
+sub-above (inf false) (fin t n d) h = tt
+sub-above (fin s m e) nan h = absurd h
+sub-above (fin s m e) (inf true) h = tt
+sub-above (fin s m e) (inf false) h = absurd h
+sub-above (fin s m e) (fin t n d) h = apart s t (m * up e * down d) (n * up d * down e) (down e * down d) (mul-pos (down-pos e) (down-pos d)) h
+
+-- ---- and of two f64 the larger less the smaller is above zero: no difference is lost in rounding
+least-above : T (lt nought (round binary64 false 1 (2 ^ 1074)))
+unfolding lt round ofBits
+least-above = tt
+
+rises : (n c : ℕ) → 0 < c → c ≤ n * 2 ^ 1074 → T (lt nought (round binary64 false n c))
+rises n c C h =
+    lt-le-trans nought (round binary64 false 1 (2 ^ 1074)) (round binary64 false n c) least-above
+    (round-mono binary64 1 (2 ^ 1074) n c (pow-pos 1074) C (le-trans (le-of-eq (one-mul c)) h))
+
+-- n / c is z units of 2 ^ -1074: if it is not zero, it is at least one
+one-unit : (n z c : ℕ) → 0 < n → n * 2 ^ 1074 ≡ z * c → c ≤ n * 2 ^ 1074
+one-unit n zero c N e = absurd (lt-irrefl 0 (lt-of-lt-of-le (mul-pos N (pow-pos 1074)) (le-of-eq (e ∙ zero-mul c))))
+one-unit n (suc z) c N e = le-trans (le-trans (more (z * c) c) (le-of-eq (sym (suc-mul z c)))) (le-of-eq (sym e))
+  where
+    more : (a b : ℕ) → b ≤ a + b
+    more a b = omega arith
+
+sub-mul : (a b k : ℕ) → (a - b) * k ≡ a * k - b * k
+sub-mul a b k = mul-comm (a - b) k ∙ mul-sub k a b ∙ ap (λ (z : ℕ). z - k * b) (mul-comm k a) ∙ ap (λ (z : ℕ). a * k - z) (mul-comm k b)
+
+less-rises : (a b c x y : ℕ) → 0 < c → a * 2 ^ 1074 ≡ x * c → b * 2 ^ 1074 ≡ y * c → b < a → T (lt nought (round binary64 false (a - b) c))
+less-rises a b c x y C X Y l =
+    rises (a - b) c C
+    (one-unit (a - b) (x - y) c (some a b l) (sub-mul a b (2 ^ 1074) ∙ ap (λ (z : ℕ). z - b * 2 ^ 1074) X ∙ ap (λ (z : ℕ). x * c - z) Y ∙ sym (sub-mul x y c)))
+  where
+    some : (a b : ℕ) → b < a → 0 < a - b
+    some a b h = omega arith
+
+-- ±a / c less ±b / c, of x and y units
+parted : (s t : Bool) (a b c x y : ℕ) → 0 < c → a * 2 ^ 1074 ≡ x * c → b * 2 ^ 1074 ≡ y * c → T (below t b s a) → T (lt nought (sum binary64 s a (not t) b c))
+unfolding sum
+parted false false a b c x y C X Y h =
+    let l = ltb→lt b a h in
+    rw (le-ltb a b (le-of-lt l)) (less-rises a b c x y C X Y l)
+parted false true a b c x y C X Y h =
+    rises (a + b) c C (one-unit (a + b) (x + y) c (flip (ltb→lt 0 (b + a) h)) (add-mul a b (2 ^ 1074) ∙ ap (λ (z : ℕ). z + b * 2 ^ 1074) X ∙ ap (λ (z : ℕ). x * c + z) Y ∙ sym (add-mul x y c)))
+  where
+    flip : 0 < b + a → 0 < a + b
+    flip h = omega arith
+parted true false a b c x y C X Y h = absurd h
+parted true true a b c x y C X Y h =
+    let l = ltb→lt a b h in
+    rw (lt-ltb a b l) (less-rises b a c y x C Y X l)
+
+-- m * 2 ^ e over a common denominator, in units
+common : (m : ℕ) (e : ℤ) (d : ℕ) (u : Units m e) → m * up e * d * 2 ^ 1074 ≡ m * 2 ^ (u .places) * (down e * d)
+common m e d u = mul-right-comm (m * up e) d (2 ^ 1074) ∙ ap (λ (z : ℕ). z * d) (sym (u .exact)) ∙ mul-assoc (m * 2 ^ (u .places)) (down e) d
+
+pub sub-rises : (x y : Float) → T (fits binary64 x) → T (fits binary64 y) → T (lt y x) → T (lt nought (x ⊖ y))
+unfolding sub lt ofBits
+sub-rises nan nan f g h = absurd h
+sub-rises nan (inf t) f g h = absurd h
+sub-rises nan (fin t n d) f g h = absurd h
+sub-rises (inf s) nan f g h = absurd h
+sub-rises (inf true) (inf true) f g h = absurd h
+sub-rises (inf true) (inf false) f g h = absurd h
+sub-rises (inf false) (inf true) f g h = tt
+sub-rises (inf false) (inf false) f g h = absurd h
+sub-rises (inf true) (fin t n d) f g h = absurd h
+sub-rises (inf false) (fin t n d) f g h = tt
+sub-rises (fin s m e) nan f g h = absurd h
+sub-rises (fin s m e) (inf true) f g h = tt
+sub-rises (fin s m e) (inf false) f g h = absurd h
+sub-rises (fin s m e) (fin t n d) f g h =
+    let u = in-units m e (held s m e f .fine) in
+    let v = in-units n d (held t n d g .fine) in
+    parted s t (m * up e * down d) (n * up d * down e) (down e * down d) (m * 2 ^ (u .places)) (n * 2 ^ (v .places)) (mul-pos (down-pos e) (down-pos d))
+    (common m e (down d) u) (common n d (down e) v ∙ ap (λ (z : ℕ). n * 2 ^ (v .places) * z) (mul-comm (down d) (down e))) h
+
+-- ---- a quotient above zero, the divisor above zero: what is divided is above zero
+like : (s t : Bool) → unlike s t ≡ false → t ≡ false → s ≡ false
+like true true e h = absurd (true≢false h)
+like true false e h = absurd (true≢false e)
+like false t e h = refl
+
+div-opened : (s : Bool) (m : ℕ) (e : ℤ) (t : Bool) (n : ℕ) (d : ℤ) → 0 < n → fin s m e ⊘ fin t n d ≡ round binary64 (unlike s t) (m * up e * down d) (n * up d * down e)
+unfolding div
+div-opened s m e t n d N = rw (ne-eqb n 0 (λ h. no n N h))
+  where
+    no : (n : ℕ) → 0 < n → n ≡ 0 → ⊥
+    no n h e = omega arith
+
+no-zero-above : (s : Bool) → T (lt nought (fin s 0 (pos 0))) → ⊥
+no-zero-above s t = lt-irrefl 0 (fin-above s 0 (pos 0) t .1)
+
+pub div-above : (x y : Float) → T (lt nought y) → T (lt nought (x ⊘ y)) → T (lt nought x)
+unfolding div
+div-above nan y p h = absurd (unfold lt ofBits in h)
+div-above (inf s) nan p h = absurd (unfold lt ofBits in p)
+div-above (inf s) (inf t) p h = absurd (unfold lt ofBits in h)
+div-above (inf s) (fin t n d) p h = above-inf s (like s t (inf-above (unlike s t) h) (fin-above t n d p .0))
+div-above (fin s m e) nan p h = absurd (unfold lt ofBits in p)
+div-above (fin s m e) (inf t) p h = absurd (no-zero-above (unlike s t) h)
+div-above (fin s m e) (fin t n d) p h =
+    let q = fin-above t n d p in
+    let r = round-above (unlike s t) (m * up e * down d) (n * up d * down e) (mul-pos (mul-pos (q .1) (up-pos d)) (down-pos e)) (subst (λ (z : Float). T (lt nought z)) (div-opened s m e t n d (q .1)) h) in
+    above-fin s m e (like s t (r .0) (q .0)) (first-pos m (up e) (first-pos (m * up e) (down d) (r .1)))
+
+-- ---- a quarter of an f64 that is not negative is no larger
+quarter-fin : (m : ℕ) (e : ℤ) → T (fits binary64 (fin false m e)) → T (le (quarter ⊗ fin false m e) (fin false m e))
+unfolding mul ofBits
+quarter-fin m e t =
+    subst (λ (z : Float). T (le (quarter ⊗ fin false m e) z)) (round-own false m e t)
+    (round-mono binary64 (1 * 1 * (m * up e)) (4 * down e) (m * up e) (down e) (mul-pos (zero-lt-suc 3) (down-pos e)) (down-pos e)
+    (le-trans (mul-le-mul-right (down e) (le-of-eq (one-mul (m * up e)))) (mul-le-mul-left (m * up e) (more (down e)))))
+  where
+    more : (d : ℕ) → d ≤ 4 * d
+    more d = omega arith
+
+minus-zero : (e : ℤ) → pos 0 ≡ e → T (le (quarter ⊗ fin true 0 e) (fin true 0 e))
+minus-zero e h = subst (λ (z : ℤ). T (le (quarter ⊗ fin true 0 z) (fin true 0 z))) h (unfold mul ofBits le in tt)
+
+pub quarter-le : (x : Float) → T (fits binary64 x) → T (le nought x) → T (le (quarter ⊗ x) x)
+quarter-le nan f h = absurd (unfold isNan in (le-real nought nan h .1))
+quarter-le (inf true) f h = absurd (unfold le ofBits in h)
+quarter-le (inf false) f h = unfold mul le ofBits in tt
+quarter-le (fin true zero e) f h = minus-zero e (zero-exponent true e (lib.Ieee.Bits.is-true _ f))
+quarter-le (fin true (suc m) e) f h = absurd (no-negative m e h)
+quarter-le (fin false m e) f h = quarter-fin m e f
+
+-- ---- the smaller of two is at most the first of them
+pub smaller-le : (x y : Float) → T (real x) → T (le (smaller x y) x)
+unfolding smaller
+smaller-le x y r = go (lt y x) (λ t. t)
+  where
+    go : (b : Bool) → (T b → T (lt y x)) → T (le (cond b y x) x)
+    go true t = lt→le y x (t tt)
+    go false t = le-self x r
+
+-- ---- a finite number is no NaN, and a magnitude fits and is not negative
+pub finite-real : (x : Float) → T (finite x) → T (real x)
+unfolding finite isNan
+finite-real nan t = t
+finite-real (inf s) t = tt
+finite-real (fin s m e) t = tt
+
+pub magnitude-fits : (x : Float) → T (fits binary64 x) → T (fits binary64 (magnitude x))
+unfolding magnitude fits
+magnitude-fits nan f = tt
+magnitude-fits (inf s) f = tt
+magnitude-fits (fin s zero e) f = f
+magnitude-fits (fin s (suc m) e) f = f
+
+pub magnitude-not-negative : (x : Float) → T (real x) → T (le nought (magnitude x))
+unfolding magnitude
+magnitude-not-negative nan r = absurd (unfold isNan in r)
+magnitude-not-negative (inf s) r = not-negative (inf false) (unfold isNan in tt) refl
+magnitude-not-negative (fin s m e) r = not-negative (fin false m e) (unfold isNan in tt) refl
