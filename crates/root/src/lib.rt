@@ -20,12 +20,11 @@ fn root_digits(m: u64) -> u64
     while i < 54 {
         let x = r * 4 + a / 0x4000_0000_0000_0000;
         let t = q * 4 + 1;
+        r = x;
+        q = q * 2;
         if t <= x {
             r = x - t;
-            q = q * 2 + 1;
-        } else {
-            r = x;
-            q = q * 2;
+            q = q + 1;
         }
         a = (a % 0x4000_0000_0000_0000) * 4;
         i += 1;
