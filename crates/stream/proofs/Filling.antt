@@ -1,6 +1,6 @@
 -- The loop that reads a list of numbers: what holds before each of them, and what it ends in. Assumes nothing.
-use mathlib.Core.Path.{_≡_, refl, sym, ap, _∙_}
-use mathlib.Core.List.{List, [], _∷_, _++_}
+use mathlib.Core.Path.{_≡_, refl, ap, _∙_}
+use mathlib.Core.List.{List, _++_}
 use Prim.Native.Nat.{ℕ, zero, suc, _+_, _*_, _<_, _≤_}
 use native.Mathlib.Numerals.{add-one}
 use native.Mathlib.Omega.{arith}
@@ -9,7 +9,7 @@ use lib.Ieee.{Float, nan, binary64, ofBits}
 use lib.ListN.{length, getD, drop, set, length-set, length-append}
 use lib.Seq.{drop-cons, drop-set-lt, set-at, append-snoc}
 use Rattle.words.specs.Words.{word-at}
-use Rattle.stream.specs.Input.{held, Found, next-by, Next, number-of, NextNumber, numbers-at, Whole, Refused, Fills}
+use Rattle.stream.specs.Input.{held, Found, next-by, Next, number-of, NextNumber, numbers-at, Fills}
 use Rattle.stream.specs.declared.input.Input.{Input}
 use Rattle.stream.specs.declared.input.Number.{Number}
 use Rattle.stream.specs.declared.input.Filled.{Filled}

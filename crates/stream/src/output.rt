@@ -52,7 +52,8 @@ pub fn flush(page: &[u8], output: Output) -> Output
 pub fn put_number(page: &mut [u8], output: Output, x: f64) -> Output
     ensures { λ r. ⌜ Put (now (page .entry)) (output .at) (hex-of 16 (toBits binary64 x)) (now (page .exit)) (r .at) ⌝ }
 {
-    let text = words::hex_of(float::bits_of(x));
+    let mut text = [0u8; 16];
+    words::put_hex(&mut text, 0, float::bits_of(x));
     put_text(page, output, &text)
 }
 

@@ -10,8 +10,8 @@ use native.Mathlib.Omega.{arith}
 use borrow.Author.Tests.{le-leb, leb-true}
 use mathlib.Core.Logic.{_⊎_, ⊎-elim, ⊎-map}
 use lib.Arith.{mod-mul}
-use lib.ListN.{List·getD-append, length, take, drop, getD, set, length-set, length-append, length-take, length-drop}
-use lib.Seq.{drop-cons, drop-set-lt, getD-set-same, take-nil, drop-nil, take-length, length-take-le, take-append-seam, drop-at, getD-take, getD-drop, getD-append-add, paste, length-paste, length-paste-head}
+use lib.ListN.{List·getD-append, length, take, drop, getD, set, length-set, length-append}
+use lib.Seq.{drop-cons, drop-set-lt, getD-set-same, take-nil, drop-nil, take-all, take-length, length-take-le, take-append-seam, drop-at, getD-take, getD-drop, getD-append-add, paste, length-paste, length-paste-head}
 use Rattle.words.specs.Words.{word-of, word-at, bytes-of, glyph, hex-of, fits-at, placed}
 
 -- ---- reading
@@ -118,6 +118,11 @@ module _ (bytes : List ℕ) (at : ℕ) (text : List ℕ) where
 
   pub placed-elsewhere : (i : ℕ) → (i < at) ⊎ (at + length text ≤ i) → getD (placed bytes at text) i 0 ≡ getD bytes i 0
   placed-elsewhere i e = placed-either refl (λ l. getD l i 0 ≡ getD bytes i 0) (λ h. paste-elsewhere i h e) refl
+
+-- a text as long as the bytes is all that is left of them
+pub placed-all : (bytes text : List ℕ) → length text ≡ length bytes → placed bytes 0 text ≡ text
+placed-all bytes text long =
+    sym (take-all (length text) (placed bytes 0 text) (rw length-placed (omega arith))) ∙ placed-here bytes 0 text (omega arith)
 
 -- words of lists that agree there are equal
 pub word-alike : (xs ys : List ℕ) (at i k : ℕ) → ((j : ℕ) → j < k → getD xs (at + (i + j)) 0 ≡ getD ys (at + (i + j)) 0)

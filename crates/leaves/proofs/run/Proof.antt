@@ -13,4 +13,9 @@ abbrev μ-loop : tie.MeasureT-loop
 μ-loop room₀ page₀ input₀ output₀ left₀ room page input output left = left
 
 pub run-spec : {M : Type 1} → statement M
-run-spec = tie.close (tie.spec Inv-loop μ-loop (λ c κs. tt) (λ c κs. tt) (λ c. (refl, refl)) (λ c. search needs) (λ c κs. tt) (λ c. search needs) (λ c. omega arith) (λ c. omega arith) (λ c. search needs) (λ c. search needs) (λ c. search needs) (λ c. search needs) (λ c. search needs) (λ c. search needs) (λ c. search needs))
+run-spec =
+    tie.close
+    (tie.spec
+    Inv-loop μ-loop (λ c κs. tt) (λ c κs. tt) (λ c. (refl, refl)) (λ c. search needs) (λ c κs. tt)
+    (λ c. search needs) (λ c. omega arith) (λ c. omega arith) (λ c. search needs) (λ c. search needs)
+    (λ c. search needs) (λ c. search needs) (λ c. search needs) (λ c. search needs) (λ c. search needs))

@@ -1,8 +1,7 @@
 -- `words::spell` meets its contract. What is still to be written, before what is there, is the whole. Assumes nothing.
-use mathlib.Core.Path.{_≡_, refl, sym, _∙_}
-use mathlib.Core.List.{[], _++_, append-nil}
+use mathlib.Core.Path.{_≡_, refl, _∙_}
+use mathlib.Core.List.{_++_, append-nil}
 use Prim.Native.Nat.{_≤_, _-_}
-use native.Mathlib.Numerals.{add-one}
 use native.Mathlib.Omega.{arith}
 use borrow.Author.Needs.{needs}
 use lib.ListN.{length, drop, length-set}
@@ -35,4 +34,8 @@ returns c =
     rw none at (c .before .loop .inv .1 .1)
 
 pub spell-spec : {M : Type 1} → statement M
-spell-spec = tie.close (tie.spec Inv-loop μ-loop loop-holds (λ c. search needs) (λ c κs. tt) (λ c. search needs) (λ c. omega arith) loop-again (λ c. search needs) returns)
+spell-spec =
+    tie.close
+    (tie.spec
+    Inv-loop μ-loop loop-holds (λ c. search needs) (λ c κs. tt) (λ c. search needs) (λ c. omega arith) loop-again
+    (λ c. search needs) returns)

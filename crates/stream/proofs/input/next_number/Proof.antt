@@ -18,4 +18,8 @@ unfolding number-of
 returns-3 c = let w = c .before .before .before .before .next-word in record { word = w .result; next = w .ensures; number = ap number-of (sym (c .enum-told2 .given .1)) }
 
 pub next-number-spec : {M : Type 1} → statement M
-next-number-spec = tie.close (tie.spec (λ c κs. tt) (λ c. search needs) (λ c κs. tt) (λ c. search needs) (λ c. search needs) (λ c. search needs) returns (λ c. search needs) returns-2 (λ c. search needs) returns-3)
+next-number-spec =
+    tie.close
+    (tie.spec
+    (λ c κs. tt) (λ c. search needs) (λ c κs. tt) (λ c. search needs) (λ c. search needs) (λ c. search needs)
+    returns (λ c. search needs) returns-2 (λ c. search needs) returns-3)

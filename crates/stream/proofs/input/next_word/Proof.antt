@@ -19,7 +19,9 @@ slice-aggregate-read-full c = sym (length-take-le _ _ (omega arith))
 
 -- what was read lies within the room
 within : (c : tie.After-read-full) → c .read-full .result ≤ length (c .before .before .before .before .before .args .room .now)
-within c = omega (arith, c .read-full .ensures .0, c .read-full .kept .1 .0, length-take (length (c .before .before .before .before .before .args .room .now) / 8 * 8) (c .before .before .before .before .before .args .room .now))
+within c =
+    let room = c .before .before .before .before .before .args .room .now in
+    omega (arith, c .read-full .ensures .0, c .read-full .kept .1 .0, length-take (length room / 8 * 8) room)
 
 returns-2 : tie.Need-returns-2
 unfolding came
@@ -34,4 +36,8 @@ returns-3 c =
     next-came _ _ _ (read .before .before .if1 .left) (read .read-full .result) (within read) (c .held2 .ensures ∙ rw (ne-eqb (read .read-full .result) 0 (c .before .before .if2 .left)))
 
 pub next-word-spec : {M : Type 1} → statement M
-next-word-spec = tie.close (tie.spec (λ c κs. tt) (λ c. search needs) returns (λ c. search needs) (λ c. search needs) slice-aggregate-read-full (λ c κs. tt) (λ c. search needs) returns-2 (λ c κs. tt) (λ c. search needs) returns-3)
+next-word-spec =
+    tie.close
+    (tie.spec
+    (λ c κs. tt) (λ c. search needs) returns (λ c. search needs) (λ c. search needs) slice-aggregate-read-full
+    (λ c κs. tt) (λ c. search needs) returns-2 (λ c κs. tt) (λ c. search needs) returns-3)

@@ -1,9 +1,8 @@
 -- `stream::input::numbers` meets its contract. Before each turn i numbers have been read. Assumes nothing.
-use mathlib.Core.Path.{_≡_, sym, ap, subst, _∙_}
+use mathlib.Core.Path.{_≡_, _∙_}
 use Prim.Native.Nat.{_≤_, _-_}
 use native.Mathlib.Omega.{arith}
 use borrow.Author.Needs.{needs}
-use lib.ListN.{length}
 use Rattle.stream.proofs.Filling.{Filling, filling-none, filling-more, fills-short, fills-done, fills-not}
 use Rattle.stream.proofs.input.numbers.Statement.{statement}
 use Rattle.stream.proofs.input.numbers.Tie as tie
@@ -46,4 +45,10 @@ returns-3 c =
     fills-done _ _ _ _ _ _ _ (rw all at (c .before .loop .inv .1)) (c .before .before .if1 .left)
 
 pub numbers-spec : {M : Type 1} → statement M
-numbers-spec = tie.close (tie.spec Inv-loop μ-loop returns loop-holds (λ c κs. tt) (λ c. search needs) (λ c. search needs) (λ c. c .before .before .before .before .next-number .kept .0 ∙ c .before .before .before .before .before .before .before .loop .inv .1 .room-long) (λ c. search needs) returns-2 mul-out slice-write-out (λ c. search needs) (λ c. omega arith) loop-again (λ c. search needs) (λ c. search needs) returns-3)
+numbers-spec =
+    tie.close
+    (tie.spec
+    Inv-loop μ-loop returns loop-holds (λ c κs. tt) (λ c. search needs) (λ c. search needs)
+    (λ c. c .before .before .before .before .next-number .kept .0 ∙ c .before .before .before .before .before .before .before .loop .inv .1 .room-long)
+    (λ c. search needs) returns-2 mul-out slice-write-out (λ c. search needs) (λ c. omega arith) loop-again
+    (λ c. search needs) (λ c. search needs) returns-3)

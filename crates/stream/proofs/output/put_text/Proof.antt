@@ -34,4 +34,8 @@ returns-3 c =
     put-out _ _ _ _ (first .0) (first .1) _ (at-else .if1 .left) (second .0) (second .1) (c .before .if2 .left)
 
 pub put-text-spec : {M : Type 1} → statement M
-put-text-spec = tie.close (tie.spec (λ c κs. tt) add-past (λ c. search needs) returns (λ c κs. tt) (λ c κs. tt) (λ c. search needs) returns-2 (λ c κs. tt) (λ c. search needs) returns-3)
+put-text-spec =
+    tie.close
+    (tie.spec
+    (λ c κs. tt) add-past (λ c. search needs) returns (λ c κs. tt) (λ c κs. tt) (λ c. search needs) returns-2
+    (λ c κs. tt) (λ c. search needs) returns-3)
