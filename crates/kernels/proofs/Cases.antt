@@ -1,0 +1,68 @@
+-- Inverses worked out over the definitions: a permutation's rows change places, a singular matrix is refused, a tie keeps its row, and each step rounds.
+-- Assumes nothing.
+use mathlib.Core.Path.{_≡_, refl}
+use mathlib.Core.Bool.{true, false}
+use mathlib.Core.List.{List, [], _∷_, map}
+use Prim.Native.Nat.{ℕ, _*_}
+use lib.IntN.{pos, negsuc}
+use lib.Ieee.{Float, fin, add, sub, mul, div, neg, lt, eq, ofBits}
+use Rattle.float.specs.Numbers.{magnitude, finite}
+use Rattle.kernels.specs.Vector.{tab, zeros, all-finite, over, less, flat, dot, dot-to}
+use Rattle.kernels.specs.Refusal.{Answer, refused, given, size, room}
+use Rattle.kernels.specs.declared.refusal.Refusal.the-variants.{Pivot}
+use Rattle.kernels.specs.Inverse.{start, pivot-among, no-pivot, swapped, divided, cleared-row, cleared, column-by, column, columns, eliminated, right-row, inverse-answer}
+
+record Case : Type 0 where
+  n : ℕ
+  matrix : List Float
+  inverse : Answer (List Float)
+
+cases : List Case
+cases =
+    record {
+      n = 2;
+      matrix = fin false 0 (pos 0) ∷ fin false 1 (pos 1) ∷ fin false 1 (pos 2) ∷ fin false 0 (pos 0) ∷ [];
+      inverse = given (fin false 0 (pos 0) ∷ fin false 1 (negsuc 1) ∷ fin false 1 (negsuc 0) ∷ fin false 0 (pos 0) ∷ []);
+    }
+    ∷ record {
+      n = 2;
+      matrix = fin false 1 (pos 0) ∷ fin false 1 (pos 1) ∷ fin false 1 (pos 1) ∷ fin false 1 (pos 2) ∷ [];
+      inverse = refused Pivot;
+    }
+    ∷ record {
+      n = 3;
+      matrix =
+          fin false 1 (pos 1) ∷ fin false 1 (pos 0) ∷ fin false 1 (pos 0)
+          ∷ fin false 1 (pos 2) ∷ fin true 3 (pos 1) ∷ fin false 0 (pos 0)
+          ∷ fin true 1 (pos 1) ∷ fin false 7 (pos 0) ∷ fin false 1 (pos 1) ∷ [];
+      inverse =
+          given
+          (fin false 3 (negsuc 1) ∷ fin true 5 (negsuc 3) ∷ fin true 3 (negsuc 2)
+          ∷ fin false 1 (negsuc 0) ∷ fin true 3 (negsuc 2) ∷ fin true 1 (negsuc 1)
+          ∷ fin true 1 (pos 0) ∷ fin false 1 (pos 0) ∷ fin false 1 (pos 0) ∷ []);
+    }
+    ∷ record {
+      n = 3;
+      matrix =
+          fin false 3 (pos 0) ∷ fin false 1 (pos 0) ∷ fin false 1 (pos 1)
+          ∷ fin false 1 (pos 0) ∷ fin false 7 (pos 0) ∷ fin true 5 (pos 0)
+          ∷ fin false 1 (negsuc 0) ∷ fin false 1 (pos 1) ∷ fin false 9 (pos 0) ∷ [];
+      inverse =
+          given
+          (fin false 803820960386421 (negsuc 50) ∷ fin true 7047197460922047 (negsuc 57) ∷ fin true 6694837587875945 (negsuc 55)
+          ∷ fin true 4052138540030177 (negsuc 55) ∷ fin false 4580678349599331 (negsuc 54) ∷ fin false 5990117841783741 (negsuc 55)
+          ∷ fin true 8456636953106457 (negsuc 59) ∷ fin true 1937979301753563 (negsuc 55) ∷ fin false 110112460326907 (negsuc 49) ∷ []);
+    }
+    ∷ []
+
+answer : Case → Answer (List Float)
+answer c = inverse-answer (c .n) (c .matrix) (zeros (c .n * c .n)) (zeros (room (c .n)))
+
+inverses : map answer cases ≡ map (λ (c : Case). c .inverse) cases
+unfolding cases answer inverse-answer eliminated columns column column-by pivot-among no-pivot swapped divided cleared-row cleared start right-row tab zeros all-finite over less flat size magnitude finite sub mul div neg lt eq ofBits
+inverses = refl
+
+-- A dot starts at +0: that of −0 and 1 is +0.
+dot-of-zero : dot (fin true 0 (pos 0) ∷ []) (fin false 1 (pos 0) ∷ []) ≡ fin false 0 (pos 0)
+unfolding dot dot-to add mul ofBits
+dot-of-zero = refl

@@ -1,0 +1,34 @@
+-- `kernels::workspace::times` meets its contract. The loop's invariant: the first i numbers of the product are there. Assumes nothing.
+use mathlib.Core.Path.{_∙_}
+use Prim.Native.Nat.{_-_}
+use borrow.Author.Needs.{needs}
+use Rattle.kernels.specs.Slots.{slot}
+use Rattle.kernels.specs.Vector.{times-at, times}
+use Rattle.kernels.proofs.Slots.{Writing, writing-none, writing-more, writing-other, writing-done}
+use Rattle.kernels.proofs.workspace.times.Statement.{statement}
+use Rattle.kernels.proofs.workspace.times.Tie as tie
+
+abbrev Inv-loop : tie.InvT-loop
+Inv-loop n w₀ to h x start i₀ w i = Writing w₀ n to (times-at n h (slot w₀ n x)) w i
+
+abbrev μ-loop : tie.MeasureT-loop
+μ-loop n w₀ to h x start i₀ w i = n - i
+
+loop-again : tie.Need-loop-again Inv-loop μ-loop
+loop-again c =
+    let inv = c .before .before .before .before .loop .inv in
+    let s = c .before .before .before .before .before .before .before in
+    writing-more inv (search needs) (c .row-dot .ensures ∙ rw (c .before .part .ensures .0, writing-other inv (s .args .x) (s .pre .3)))
+
+pub times-spec : {M : Type 1} → statement M
+unfolding times
+times-spec =
+    tie.close
+    (tie.spec Inv-loop μ-loop
+    (λ c. search needs)
+    (λ c. writing-none (search needs))
+    (λ c κs. search needs) (λ c κs. search needs)
+    (λ c. search needs) (λ c. search needs) (λ c. search needs) (λ c. search needs) (λ c. search needs)
+    loop-again
+    (λ c. search needs)
+    (λ c. writing-done (c .before .loop .inv) (search needs)))

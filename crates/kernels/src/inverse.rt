@@ -1,0 +1,238 @@
+// Gauss-Jordan on [H | I]. Row i is slot 4 + i of width 2·n of the scratch w, so that its slots 0 to 7 of
+// width n are free.
+use crate::refusal;
+use crate::refusal::Outcome;
+use crate::refusal::Refusal;
+use crate::vector;
+use crate::workspace;
+use crate::workspace::Op;
+ghost use mathlib.Core.Path.{_≡_};
+ghost use mathlib.Core.Bool.{_&&_};
+ghost use Prim.Native.Nat.{_+_, _*_, _<_, _≤_};
+ghost use lib.Dec.{eqb};
+ghost use lib.ListN.{length};
+ghost use Rattle.kernels.specs.Vector.{tab, flat};
+ghost use Rattle.kernels.specs.Slots.{Puts};
+ghost use Rattle.kernels.specs.Refusal.{size, room, Roomy, Ended};
+ghost use Rattle.kernels.specs.Inverse as Inverse;
+
+// Number k of row i of [H | I].
+fn start_entry(n: usize, h: &[f64], i: usize, k: usize) -> f64
+    requires { ⌜ (n ≤ 64) × (length (now h) ≡ n * n) × (i < n) ⌝ }
+    ensures { λ r. ⌜ r ≡ Inverse.start-entry n (now (h .entry)) i k ⌝ }
+{
+    if k < n {
+        let from = i * n;
+        return h[from + k];
+    }
+    if k == n + i {
+        return 1.0;
+    }
+    0.0
+}
+
+fn start_row(n: usize, w: &mut [f64], i: usize, h: &[f64])
+    requires { ⌜ Roomy n (length (now w)) × (i < n) × (length (now h) ≡ n * n) ⌝ }
+    ensures { λ _. ⌜ Puts (now (w .entry)) (n + n) (4 + i) (tab (n + n) (Inverse.start-entry n (now (h .entry)) i)) (now (w .exit)) ⌝ }
+{
+    let width = n + n;
+    let from = (4 + i) * width;
+    let mut k = 0;
+    while k < width {
+        w[from + k] = start_entry(n, h, i, k);
+        k += 1;
+    }
+}
+
+fn start(n: usize, w: &mut [f64], h: &[f64])
+    requires { ⌜ Roomy n (length (now w)) × (length (now h) ≡ n * n) ⌝ }
+    ensures { λ _. ⌜ Inverse.rows-in (now (w .exit)) n ≡ Inverse.start n (now (h .entry)) ⌝ }
+{
+    let mut i = 0;
+    while i < n {
+        start_row(n, w, i, h);
+        i += 1;
+    }
+}
+
+fn entry(n: usize, w: &[f64], i: usize, j: usize) -> f64
+    requires { ⌜ Roomy n (length (now w)) × (i < n) × (j < n) ⌝ }
+    ensures { λ r. ⌜ r ≡ Inverse.entry (Inverse.rows-in (now (w .entry)) n) i j ⌝ }
+{
+    let width = n + n;
+    let from = (4 + i) * width;
+    w[from + j]
+}
+
+// The pivot row of column j.
+fn pivot_row(n: usize, w: &[f64], j: usize) -> usize
+    requires { ⌜ Roomy n (length (now w)) × (j < n) ⌝ }
+    ensures { λ r. ⌜ (r ≡ Inverse.pivot-row n (Inverse.rows-in (now (w .entry)) n) j) × (r < n) ⌝ }
+{
+    let mut p = j;
+    let mut i = j + 1;
+    while i < n {
+        let held = float::magnitude(entry(n, w, p, j));
+        let seen = float::magnitude(entry(n, w, i, j));
+        if seen > held {
+            p = i;
+        }
+        i += 1;
+    }
+    p
+}
+
+// The one place that says which pivots end in refusal 6.
+fn no_pivot(x: f64) -> bool
+    ensures { λ r. ⌜ r ≡ Inverse.no-pivot x ⌝ }
+{
+    x == 0.0
+}
+
+// Rows j and p, by way of the scratch's first numbers.
+fn swap_rows(n: usize, w: &mut [f64], j: usize, p: usize)
+    requires { ⌜ Roomy n (length (now w)) × (j < n) × (p < n) ⌝ }
+    ensures { λ _. ⌜ Inverse.rows-in (now (w .exit)) n ≡ Inverse.swapped (Inverse.rows-in (now (w .entry)) n) j p ⌝ }
+{
+    let width = n + n;
+    let a = 4 + j;
+    let b = 4 + p;
+    workspace::each(width, w, 0, Op::Same, a, a);
+    workspace::each(width, w, a, Op::Same, b, b);
+    workspace::each(width, w, b, Op::Same, 0, 0);
+}
+
+fn divide_row(n: usize, w: &mut [f64], j: usize)
+    requires { ⌜ Roomy n (length (now w)) × (j < n) ⌝ }
+    ensures { λ _. ⌜ Inverse.rows-in (now (w .exit)) n ≡ Inverse.divided n (Inverse.rows-in (now (w .entry)) n) j ⌝ }
+{
+    let pivot = entry(n, w, j, j);
+    workspace::each(n + n, w, 4 + j, Op::Over(pivot), 4 + j, 4 + j);
+}
+
+fn clear_row(n: usize, w: &mut [f64], j: usize, i: usize)
+    requires { ⌜ Roomy n (length (now w)) × (j < n) × (i < n) ⌝ }
+    ensures { λ _. ⌜ Inverse.rows-in (now (w .exit)) n ≡ Inverse.cleared-row n (Inverse.rows-in (now (w .entry)) n) j i ⌝ }
+{
+    let x = entry(n, w, i, j);
+    workspace::each(n + n, w, 4 + i, Op::LessTimes(x), 4 + i, 4 + j);
+}
+
+fn clear_rows(n: usize, w: &mut [f64], j: usize)
+    requires { ⌜ Roomy n (length (now w)) × (j < n) ⌝ }
+    ensures { λ _. ⌜ Inverse.rows-in (now (w .exit)) n ≡ Inverse.cleared n (Inverse.rows-in (now (w .entry)) n) j n ⌝ }
+{
+    let mut i = 0;
+    while i < n {
+        if i != j {
+            clear_row(n, w, j, i);
+        }
+        i += 1;
+    }
+}
+
+// Column j; false where it has no pivot.
+fn column(n: usize, w: &mut [f64], j: usize) -> bool
+    requires { ⌜ Roomy n (length (now w)) × (j < n) ⌝ }
+    ensures { λ r. ⌜ Inverse.found r (Inverse.rows-in (now (w .exit)) n) ≡ Inverse.column n (Inverse.rows-in (now (w .entry)) n) j ⌝ }
+{
+    let p = pivot_row(n, w, j);
+    if no_pivot(entry(n, w, p, j)) {
+        return false;
+    }
+    swap_rows(n, w, j, p);
+    divide_row(n, w, j);
+    clear_rows(n, w, j);
+    true
+}
+
+fn columns(n: usize, w: &mut [f64]) -> bool
+    requires { ⌜ Roomy n (length (now w)) ⌝ }
+    ensures { λ r. ⌜ Inverse.found r (Inverse.rows-in (now (w .exit)) n) ≡ Inverse.columns n n 0 (Inverse.rows-in (now (w .entry)) n) ⌝ }
+{
+    let mut j = 0;
+    while j < n {
+        if !column(n, w, j) {
+            return false;
+        }
+        j += 1;
+    }
+    true
+}
+
+// Leaves the rows of the elimination in w; false where a column has no pivot.
+pub(crate) fn eliminate(n: usize, w: &mut [f64], h: &[f64]) -> bool
+    requires { ⌜ Roomy n (length (now w)) × (length (now h) ≡ n * n) ⌝ }
+    ensures { λ r. ⌜ Inverse.found r (Inverse.rows-in (now (w .exit)) n) ≡ Inverse.eliminated n (now (h .entry)) ⌝ }
+{
+    start(n, w, h);
+    columns(n, w)
+}
+
+// The right half of row i, as that part of w.
+fn right_row(n: usize, w: &[f64], i: usize) -> &[f64]
+    requires { ⌜ Roomy n (length (now w)) × (i < n) ⌝ }
+    ensures { λ r. ⌜ (now r ≡ Inverse.right-row n (Inverse.rows-in (now (w .entry)) n) i) × (length (now r) ≡ n) ⌝ }
+{
+    let width = n + n;
+    let from = (4 + i) * width + n;
+    &w[from..from + n]
+}
+
+// Slot to, below 8, takes the product of g and the inverse that `eliminate` left in w.
+pub(crate) fn inverse_times(n: usize, w: &mut [f64], to: usize, g: &[f64])
+    requires { ⌜ Roomy n (length (now w)) × (to < 8) × (length (now g) ≡ n) ⌝ }
+    ensures { λ _. ⌜ Puts (now (w .entry)) n to (Inverse.inverse-times n (Inverse.rows-in (now (w .entry)) n) (now (g .entry))) (now (w .exit)) ⌝ }
+{
+    let first = to * n;
+    let mut i = 0;
+    while i < n {
+        let x = vector::dot_unchecked(right_row(n, w, i), g);
+        w[first + i] = x;
+        i += 1;
+    }
+}
+
+fn hand_out(n: usize, w: &[f64], out: &mut [f64])
+    requires { ⌜ Roomy n (length (now w)) × (length (now out) ≡ n * n) ⌝ }
+    ensures { λ _. ⌜ now (out .exit) ≡ flat n (Inverse.right-row n (Inverse.rows-in (now (w .entry)) n)) ⌝ }
+{
+    let mut i = 0;
+    while i < n {
+        workspace::put(n, out, i, right_row(n, w, i));
+        i += 1;
+    }
+}
+
+// n and the lengths of the matrix, of what takes its inverse and of the scratch are right.
+fn sized(n: usize, h: usize, out: usize, scratch: usize) -> bool
+    ensures { λ r. ⌜ r ≡ (size n && eqb h (n * n) && eqb out (n * n) && eqb scratch (room n)) ⌝ }
+{
+    if !refusal::matrix(n, h) {
+        return false;
+    }
+    if out != n * n {
+        return false;
+    }
+    scratch == 2 * (n * n) + 8 * n
+}
+
+// The inverse of h, into out.
+pub fn inverse(n: usize, h: &[f64], out: &mut [f64], scratch: &mut [f64]) -> Outcome
+    ensures { λ r. ⌜ Ended (Inverse.inverse-answer n (now (h .entry)) (now (out .entry)) (now (scratch .entry)))
+        r (now (out .entry)) (now (out .exit)) (now (scratch .entry)) (now (scratch .exit)) ⌝ }
+{
+    if !sized(n, h.len(), out.len(), scratch.len()) {
+        return Outcome::Refused(Refusal::Size);
+    }
+    if !vector::all_finite(h) {
+        return Outcome::Refused(Refusal::Entry);
+    }
+    if !eliminate(n, scratch, h) {
+        workspace::clear(scratch);
+        return Outcome::Refused(Refusal::Pivot);
+    }
+    hand_out(n, scratch, out);
+    workspace::clear(scratch);
+    Outcome::Written
+}
