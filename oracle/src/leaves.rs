@@ -37,7 +37,7 @@ pub fn answer(input: &[u8], operations: u64, out: &mut impl Write) -> io::Result
 }
 
 /// The bits that are printed. Machines make NaN of either sign, so all of them become one.
-fn one_nan(x: f64) -> u64 {
+pub fn one_nan(x: f64) -> u64 {
     if x.is_nan() {
         0x7ff8_0000_0000_0000
     } else {

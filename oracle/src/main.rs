@@ -1,14 +1,9 @@
-//! The developers' oracle: plain Rust that is run against the Rattle programs, bit for bit.
-//! README.md says which word makes which file.
+//! The developers' oracle: its words are in README.md and below.
 
-mod calls;
-mod damaged;
-mod input;
-mod leaves;
-mod random;
-mod roots;
-mod vector;
-
+use oracle::step::{self, Answer};
+use oracle::tally::Tally;
+use oracle::{calls, cases, damaged, formulas, leaves, replay, roots, sessions, slips};
+use std::cell::RefCell;
 use std::env;
 use std::io::{self, BufWriter, Read, Write};
 use std::process::ExitCode;
@@ -19,27 +14,65 @@ usage: oracle leaves [--ops K]     answer the calls on standard input, as progra
        oracle roots COUNT SEED     write an input of COUNT root calls
        oracle calls COUNT SEED     write an input of COUNT calls of operations 2 to 8
        oracle damaged COUNT SEED   write an input of COUNT root calls and one damaged call
+       oracle formulas             answer the input of program `step`, by document 01's formulas
+       oracle cases COUNT SEED     write a batch of COUNT inputs of program `step`
+       oracle batch [--counts]     answer such a batch, by argmin's own code where that is built
+                                   in, else by the formulas; --counts: and count the answers, on
+                                   standard error
+       oracle session SEED         write an input of program `replay`
+       oracle replay               answer it, by argmin's own code where that is built in, else by
+                                   the formulas
+       oracle pick NUMBER          write case NUMBER (from 0) of the batch on standard input
+       oracle slips COUNT SEED     tell how many of COUNT cases each wrong program answers wrongly
+with argmin's own code built in (README.md):
+       oracle step                 answer the input of program `step`, by argmin's own code
+       oracle agree COUNT SEED     compare argmin's own code with the formulas on COUNT cases
+       oracle agree-sessions COUNT SEED
+                                   the same on the sessions of the seeds from SEED on
 ";
 
 fn main() -> ExitCode {
     let words: Vec<String> = env::args().skip(1).collect();
     let words: Vec<&str> = words.iter().map(String::as_str).collect();
     let done = match words[..] {
-        ["leaves"] => answer(leaves::OPERATIONS),
+        ["leaves"] => answer_leaves(leaves::OPERATIONS),
         ["leaves", "--ops", k] => match k.parse() {
-            Ok(k) if k <= leaves::OPERATIONS => answer(k),
+            Ok(k) if k <= leaves::OPERATIONS => answer_leaves(k),
             _ => return usage(),
         },
-        [word @ ("roots" | "calls" | "damaged"), count, seed] => {
+        ["formulas"] => answer_one(|input| step::answer(input, formulas::solve)),
+        ["pick", number] => match number.parse() {
+            Ok(number) => pick(number),
+            Err(_) => return usage(),
+        },
+        ["session", seed] => match seed.parse() {
+            Ok(seed) => write_all(&sessions::input(seed)),
+            Err(_) => return usage(),
+        },
+        ["replay"] => answer_replay(),
+        ["batch"] => answer_batch(false),
+        ["batch", "--counts"] => answer_batch(true),
+        #[cfg(feature = "argmin")]
+        ["step"] => answer_one(best),
+        [word, count, seed] => {
             let (Ok(count), Ok(seed)) = (count.parse(), seed.parse()) else {
                 return usage();
             };
-            let make = match word {
-                "roots" => roots::input,
-                "calls" => calls::input,
-                _ => damaged::input,
-            };
-            io::stdout().write_all(&make(count, seed))
+            match word {
+                "roots" => write_all(&roots::input(count, seed)),
+                "calls" => write_all(&calls::input(count, seed)),
+                "damaged" => write_all(&damaged::input(count, seed)),
+                "cases" => write_all(&cases::input(count, seed)),
+                "slips" => slips::report(count, seed, &mut io::stdout()),
+                #[cfg(feature = "argmin")]
+                "agree" => all_agree(oracle::agree::report(count, seed, &mut io::stdout())),
+                #[cfg(feature = "argmin")]
+                "agree-sessions" => {
+                    let agree = oracle::agree::report_sessions(count, seed, &mut io::stdout());
+                    all_agree(agree)
+                }
+                _ => return usage(),
+            }
         }
         _ => return usage(),
     };
@@ -57,10 +90,84 @@ fn usage() -> ExitCode {
     ExitCode::from(2)
 }
 
-fn answer(operations: u64) -> io::Result<()> {
+fn write_all(bytes: &[u8]) -> io::Result<()> {
+    io::stdout().write_all(bytes)
+}
+
+fn standard_input() -> io::Result<Vec<u8>> {
     let mut input = Vec::new();
     io::stdin().lock().read_to_end(&mut input)?;
+    Ok(input)
+}
+
+fn answer_leaves(operations: u64) -> io::Result<()> {
+    let input = standard_input()?;
     let mut out = BufWriter::new(io::stdout().lock());
     leaves::answer(&input, operations, &mut out)?;
     out.flush()
+}
+
+fn answer_one(answer: impl Fn(&[u8]) -> Answer) -> io::Result<()> {
+    answer(&standard_input()?).write(&mut io::stdout())
+}
+
+fn pick(number: usize) -> io::Result<()> {
+    let input = standard_input()?;
+    let mut rest = &input[..];
+    let mut cases = std::iter::from_fn(|| {
+        let (case, after) = step::split_case(rest)?;
+        rest = after;
+        Some(case)
+    });
+    match cases.nth(number) {
+        Some(case) => write_all(case),
+        None => Err(io::Error::other("the batch has no such case")),
+    }
+}
+
+fn answer_replay() -> io::Result<()> {
+    let input = standard_input()?;
+    let mut out = BufWriter::new(io::stdout().lock());
+    #[cfg(feature = "argmin")]
+    let engine = oracle::argmin_sessions::Argmin;
+    #[cfg(not(feature = "argmin"))]
+    let engine = oracle::session::Formulas;
+    replay::answer(&input, &engine, &mut out)?;
+    out.flush()
+}
+
+#[cfg(feature = "argmin")]
+fn all_agree(agree: io::Result<bool>) -> io::Result<()> {
+    match agree? {
+        true => Ok(()),
+        false => Err(io::Error::other("argmin and the formulas differ")),
+    }
+}
+
+/// Program `step` by the best that is there.
+#[cfg(feature = "argmin")]
+fn best(input: &[u8]) -> Answer {
+    step::answer(input, oracle::argmin_kernels::solve)
+}
+
+#[cfg(not(feature = "argmin"))]
+fn best(input: &[u8]) -> Answer {
+    step::answer(input, formulas::solve)
+}
+
+fn answer_batch(counts: bool) -> io::Result<()> {
+    let input = standard_input()?;
+    let mut out = BufWriter::new(io::stdout().lock());
+    let tally = RefCell::new(Tally::default());
+    let answer = |case: &[u8]| {
+        let answer = best(case);
+        tally.borrow_mut().add(case, &answer);
+        answer
+    };
+    step::batch(&input, answer, &mut out)?;
+    out.flush()?;
+    if counts {
+        tally.borrow().write(&mut io::stderr())?;
+    }
+    Ok(())
 }

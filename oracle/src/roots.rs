@@ -266,7 +266,7 @@ mod tests {
         for _ in 0..1000 {
             let bits = beside_midpoint(&mut random);
             let exponent = bits >> 52;
-            let digits = u128::from(bits % (1 << 52) | 1 << 52);
+            let digits = u128::from((bits % (1 << 52)) | (1 << 52));
             // x·2^(even), of 127 or 128 digits.
             let square = digits << (74 + (exponent + 1) % 2);
             let root = square.isqrt();

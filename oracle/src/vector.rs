@@ -33,6 +33,10 @@ impl Matrix {
         Matrix { size, entries }
     }
 
+    pub fn size(&self) -> usize {
+        self.size
+    }
+
     pub fn entries(&self) -> &[f64] {
         &self.entries
     }

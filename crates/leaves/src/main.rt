@@ -1,68 +1,77 @@
 // Runs a list of calls of the leaf functions, from standard input, and writes a line for each. A call
-// is its number and its arguments, in words of 8 bytes; a line is `is` and the answer. Input that ends
-// inside a call, or has a number that no call has, ends the run with the line `bad input`.
+// is its number and its arguments, in words of 8 bytes; a line is `is` and the answer, or `refused` and
+// a number. Input that ends inside a call, or has a number that no call has, ends the run with the line
+// `bad input`.
+mod calls;
+mod lines;
+mod lists;
+
+use lines::Step;
 use stream::Input;
-use stream::Number;
 use stream::Output;
 use stream::Word;
 
-// What a call leaves to do: the next one, or nothing.
-enum Step {
-    Next(Input, Output),
-    Stop,
-}
-
-// 1 root x
-fn root(room: &mut [u8], page: &mut [u8], input: Input, output: Output) -> Step {
-    let number = stream::next_number(room, input);
-    let Number::Is(x, next) = number else {
-        return bad(page, output);
-    };
-    Step::Next(next, line(page, output, root::root(x)))
-}
-
-// The line of a call whose answer is one number.
-fn line(page: &mut [u8], output: Output, x: f64) -> Output {
-    let said = stream::put_text(page, output, b"is ");
-    let put = stream::put_number(page, said, x);
-    stream::put_line_end(page, put)
-}
-
-fn bad(page: &mut [u8], output: Output) -> Step {
-    let said = stream::put_text(page, output, b"bad input\n");
-    stop(page, said)
-}
-
-fn stop(page: &[u8], output: Output) -> Step {
-    stream::flush(page, output);
-    Step::Stop
-}
-
-fn call(room: &mut [u8], page: &mut [u8], input: Input, output: Output, number: u64) -> Step {
-    if number == 1 {
-        return root(room, page, input, output);
+fn call(
+    room: &mut [u8],
+    page: &mut [u8],
+    a: &mut [f64],
+    b: &mut [f64],
+    c: &mut [f64],
+    out: &mut [f64],
+    scratch: &mut [f64],
+    input: Input,
+    output: Output,
+    number: u64,
+) -> Step {
+    match number {
+        1 => calls::root(room, page, input, output),
+        2 => calls::ratio(room, page, input, output),
+        3 => calls::dot(room, page, a, b, input, output),
+        4 => calls::norm(room, page, a, input, output),
+        5 => calls::weighted_dot(room, page, a, b, c, input, output),
+        6 => calls::product(room, page, a, b, out, input, output),
+        7 => calls::inverse(room, page, a, out, scratch, input, output),
+        8 => calls::row(room, page, a, input, output),
+        _ => lines::bad(page, output),
     }
-    bad(page, output)
 }
 
-fn next_call(room: &mut [u8], page: &mut [u8], input: Input, output: Output) -> Step {
+fn next_call(
+    room: &mut [u8],
+    page: &mut [u8],
+    a: &mut [f64],
+    b: &mut [f64],
+    c: &mut [f64],
+    out: &mut [f64],
+    scratch: &mut [f64],
+    input: Input,
+    output: Output,
+) -> Step {
     let word = stream::next_word(room, input);
     match word {
-        Word::Is(number, next) => call(room, page, next, output, number),
-        Word::End => stop(page, output),
-        Word::Short => bad(page, output),
+        Word::Is(number, next) => call(room, page, a, b, c, out, scratch, next, output, number),
+        Word::End => lines::stop(page, output),
+        Word::Short => lines::bad(page, output),
     }
 }
 
 // A proved loop has to end, and nothing says that an input does: the calls are counted down from a
 // number that no run uses up.
-fn run(room: &mut [u8], page: &mut [u8]) {
+fn run(
+    room: &mut [u8],
+    page: &mut [u8],
+    a: &mut [f64],
+    b: &mut [f64],
+    c: &mut [f64],
+    out: &mut [f64],
+    scratch: &mut [f64],
+) {
     let mut input = stream::start();
     let mut output = stream::top();
     let mut left = u64::MAX;
     while left > 0 {
         left -= 1;
-        match next_call(room, page, input, output) {
+        match next_call(room, page, a, b, c, out, scratch, input, output) {
             Step::Next(next, put) => {
                 input = next;
                 output = put;
@@ -72,8 +81,22 @@ fn run(room: &mut [u8], page: &mut [u8]) {
     }
 }
 
+// Three lists of 8192 numbers, and an output and a scratch of 8704, the scratch at n = 64.
 fn main() {
     let mut room = io::large_buffer();
     let mut page = io::large_buffer();
-    run(&mut room, &mut page);
+    let mut a = [0.0; 8192];
+    let mut b = [0.0; 8192];
+    let mut c = [0.0; 8192];
+    let mut out = [0.0; 8704];
+    let mut scratch = [0.0; 8704];
+    run(
+        &mut room,
+        &mut page,
+        &mut a,
+        &mut b,
+        &mut c,
+        &mut out,
+        &mut scratch,
+    );
 }

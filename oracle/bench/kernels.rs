@@ -1,0 +1,226 @@
+//! argmin's own kernels, timed, and beside them the Rattle ones where they are linked in (feature
+//! `rattle`; the script bench-kernels links them). Both get the same inputs, in turns; the best
+//! round of each counts.
+//!
+//! argmin's side is what its `TrustRegion` runs for each step: an executor over the kernel, with
+//! the derivatives cloned, and a fresh vector for every operation. The arithmetic under it is
+//! document 01's (src/vector.rs).
+
+use oracle::argmin_kernels;
+use oracle::random::{with_exponent, Random};
+use oracle::step::{Call, Kernel};
+use oracle::vector::{Matrix, Vector};
+use std::hint::black_box;
+use std::process::ExitCode;
+use std::time::Instant;
+
+const SIZES: [usize; 3] = [6, 24, 64];
+const INPUTS: usize = 32;
+const ROUNDS: usize = 5;
+/// A round is repeated until it takes about this long.
+const ROUND_SECONDS: f64 = 0.1;
+
+/// What the linked library exports: a function for each kernel, all of one shape. A slice is a
+/// pointer and a length. Cauchy and Dogleg pass over epsilon and limit. The answer is 0 where the
+/// step was written, else the refusal's number.
+#[cfg_attr(not(feature = "rattle"), allow(dead_code))]
+type Linked = unsafe extern "C" fn(
+    n: usize,
+    radius: f64,
+    epsilon: f64,
+    limit: u64,
+    gradient: *const f64,
+    gradient_length: usize,
+    hessian: *const f64,
+    hessian_length: usize,
+    step: *mut f64,
+    step_length: usize,
+    scratch: *mut f64,
+    scratch_length: usize,
+) -> u64;
+
+/// Declares each name of the library with the shape above.
+#[cfg(feature = "rattle")]
+macro_rules! linked {
+    ($($kernel:ident: $name:ident,)*) => {
+        unsafe extern "C" {
+            $(fn $name(
+                n: usize, radius: f64, epsilon: f64, limit: u64,
+                gradient: *const f64, gradient_length: usize,
+                hessian: *const f64, hessian_length: usize,
+                step: *mut f64, step_length: usize,
+                scratch: *mut f64, scratch_length: usize,
+            ) -> u64;)*
+        }
+
+        fn linked(kernel: Kernel) -> Option<Linked> {
+            Some(match kernel {
+                $(Kernel::$kernel => $name,)*
+            })
+        }
+    };
+}
+
+// The table of names.
+#[cfg(feature = "rattle")]
+linked! {
+    Cauchy: bench_cauchy_point,
+    Dogleg: bench_dogleg,
+    Steihaug: bench_steihaug,
+}
+
+#[cfg(not(feature = "rattle"))]
+fn linked(_kernel: Kernel) -> Option<Linked> {
+    None
+}
+
+/// Runs a linked kernel on lent vectors and leaves its step in `step`.
+fn run_linked(kernel: Linked, call: &Call, step: &mut [f64], scratch: &mut [f64]) -> u64 {
+    let (g, h) = (&call.gradient.0, call.hessian.entries());
+    // SAFETY: each pointer comes with its own slice's length, and none of them overlap.
+    unsafe {
+        kernel(
+            g.len(),
+            call.radius,
+            call.epsilon,
+            call.limit,
+            g.as_ptr(),
+            g.len(),
+            h.as_ptr(),
+            h.len(),
+            step.as_mut_ptr(),
+            step.len(),
+            scratch.as_mut_ptr(),
+            scratch.len(),
+        )
+    }
+}
+
+/// Calls that take the kernel's long way: Cauchy's tau below 1, Dogleg's path cut, Steihaug's passes
+/// until the residual is small or n are done.
+fn calls(kernel: Kernel, n: usize, random: &mut Random) -> Vec<Call> {
+    let call = |random: &mut Random| {
+        let gradient = Vector((0..n).map(|_| with_exponent(random, 0)).collect());
+        let hessian = definite(n, random);
+        let inverse = hessian.inverse().expect("a definite matrix has an inverse");
+        let whole = inverse.times(&gradient).norm();
+        let radius = match kernel {
+            Kernel::Cauchy => 4.0 * gradient.norm(),
+            Kernel::Dogleg => 0.5 * whole,
+            Kernel::Steihaug => 1e6 * whole,
+        };
+        Call {
+            kernel,
+            radius,
+            epsilon: 1e-9,
+            limit: n as u64,
+            gradient,
+            hessian,
+        }
+    };
+    (0..INPUTS).map(|_| call(random)).collect()
+}
+
+/// A·Aᵀ with n on its diagonal besides: definite, and not too far from a multiple of the identity.
+fn definite(n: usize, random: &mut Random) -> Matrix {
+    let rows: Vec<Vector> = (0..n)
+        .map(|_| Vector((0..n).map(|_| with_exponent(random, 0)).collect()))
+        .collect();
+    let entries = (0..n * n).map(|k| {
+        let (i, j) = (k / n, k % n);
+        rows[i].dot(&rows[j]) + if i == j { n as f64 } else { 0.0 }
+    });
+    Matrix::new(n, entries.collect())
+}
+
+/// Seconds for so many goes over all inputs.
+fn seconds(goes: usize, mut go: impl FnMut()) -> f64 {
+    let start = Instant::now();
+    for _ in 0..goes {
+        go();
+    }
+    start.elapsed().as_secs_f64()
+}
+
+fn main() -> ExitCode {
+    println!("nanoseconds for a call, best of {ROUNDS} rounds over {INPUTS} inputs");
+    let rattle = if cfg!(feature = "rattle") {
+        "Rattle"
+    } else {
+        "(no Rattle library is linked)"
+    };
+    println!(
+        "{:9} {:>3} {:>6} {:>10} {rattle:>10}",
+        "", "n", "passes", "argmin"
+    );
+    let mut random = Random::new(1);
+    let mut differing = 0;
+    for kernel in [Kernel::Cauchy, Kernel::Dogleg, Kernel::Steihaug] {
+        for n in SIZES {
+            let calls = calls(kernel, n, &mut random);
+            differing += bench(kernel, n, &calls);
+        }
+    }
+    if differing > 0 {
+        println!("{differing} steps differ");
+        return ExitCode::FAILURE;
+    }
+    ExitCode::SUCCESS
+}
+
+/// Prints a line, and gives the number of calls whose steps differ.
+fn bench(kernel: Kernel, n: usize, calls: &[Call]) -> usize {
+    let by_argmin = || {
+        for call in calls {
+            // An unwanted answer would be a quick one.
+            let (step, _) = argmin_kernels::solve(black_box(call)).expect("a step");
+            black_box(step);
+        }
+    };
+    let mut step = vec![0.0; n];
+    let mut scratch = vec![0.0; 2 * n * n + 8 * n];
+    let linked = linked(kernel);
+    let mut by_rattle = |kernel: Linked| {
+        for call in calls {
+            let answer = run_linked(black_box(kernel), black_box(call), &mut step, &mut scratch);
+            assert_eq!(answer, 0, "a step");
+            black_box(&mut step);
+        }
+    };
+    let goes = (ROUND_SECONDS / seconds(1, by_argmin)).ceil() as usize;
+    let (mut argmin, mut rattle) = (f64::INFINITY, f64::INFINITY);
+    for _ in 0..ROUNDS {
+        argmin = argmin.min(seconds(goes, by_argmin));
+        if let Some(kernel) = linked {
+            rattle = rattle.min(seconds(goes, || by_rattle(kernel)));
+        }
+    }
+    let nanoseconds = |seconds: f64| seconds * 1e9 / (goes * calls.len()) as f64;
+    let passes: u64 = calls.iter().map(passes).sum();
+    print!(
+        "{:9} {n:3} {:6.1} {:10.0}",
+        format!("{kernel:?}"),
+        passes as f64 / calls.len() as f64,
+        nanoseconds(argmin),
+    );
+    let Some(kernel) = linked else {
+        println!();
+        return 0;
+    };
+    println!(
+        " {:10.0}  ratio {:.2}",
+        nanoseconds(rattle),
+        rattle / argmin
+    );
+    let differs = |call: &&Call| {
+        run_linked(kernel, call, &mut step, &mut scratch);
+        let (right, _) = argmin_kernels::solve(call).expect("a step");
+        let bits = |numbers: &[f64]| numbers.iter().map(|x| x.to_bits()).collect::<Vec<_>>();
+        bits(&step) != bits(&right.0)
+    };
+    calls.iter().filter(differs).count()
+}
+
+fn passes(call: &Call) -> u64 {
+    argmin_kernels::solve(call).expect("a step").1
+}

@@ -1,0 +1,100 @@
+//! argmin's files against the text of document 01, without any Rattle: the same cases for both.
+
+use crate::argmin_sessions::Argmin;
+use crate::cases::Cases;
+use crate::session::Formulas;
+use crate::step::{self, Answer};
+use crate::tally::Tally;
+use crate::{argmin_kernels, formulas, replay, sessions};
+use std::collections::BTreeMap;
+use std::io::{self, Write};
+
+/// So many differences are shown whole.
+const SHOWN: u64 = 20;
+
+/// Compares the answers to `count` cases and writes differences and counts. True if there are none.
+pub fn report(count: u64, seed: u64, out: &mut impl Write) -> io::Result<bool> {
+    let mut tally = Tally::default();
+    let mut differing = 0;
+    for (number, case) in Cases::new(seed).take(count as usize).enumerate() {
+        let by_argmin = step::answer(&case, argmin_kernels::solve);
+        let by_formulas = step::answer(&case, formulas::solve);
+        tally.add(&case, &by_argmin);
+        if !by_argmin.same(&by_formulas) {
+            differing += 1;
+            if differing <= SHOWN {
+                writeln!(out, "case {number} differs; its words are")?;
+                show(&case, &by_argmin, &by_formulas, out)?;
+            }
+        }
+    }
+    tally.write(out)?;
+    writeln!(out, "{count} cases, {differing} differ")?;
+    Ok(differing == 0)
+}
+
+fn show(case: &[u8], argmin: &Answer, formulas: &Answer, out: &mut impl Write) -> io::Result<()> {
+    for chunk in case.chunks(8) {
+        let mut word = [0; 8];
+        word[..chunk.len()].copy_from_slice(chunk);
+        writeln!(out, "  {:016x}", u64::from_le_bytes(word))?;
+    }
+    writeln!(out, "argmin:")?;
+    argmin.write(out)?;
+    writeln!(out, "formulas:")?;
+    formulas.write(out)
+}
+
+/// The same for the sessions of `count` seeds from `seed` on, counting lines by kind and first word.
+pub fn report_sessions(count: u64, seed: u64, out: &mut impl Write) -> io::Result<bool> {
+    let mut lines: BTreeMap<(String, String), u64> = BTreeMap::new();
+    let mut differing = 0;
+    for seed in (seed..).take(count as usize) {
+        let input = sessions::input(seed);
+        let (mut by_argmin, mut by_formulas) = (Vec::new(), Vec::new());
+        replay::answer(&input, &Argmin, &mut by_argmin)?;
+        replay::answer(&input, &Formulas, &mut by_formulas)?;
+        let kind = match input.first() {
+            Some(1) => "TrustRegion",
+            Some(2) => "SR1TrustRegion",
+            _ => "no kind",
+        };
+        for line in String::from_utf8_lossy(&by_argmin).lines() {
+            let words: Vec<&str> = line.split(' ').collect();
+            let name = match words[..] {
+                ["refused" | "end", ..] => words[..2].join(" "),
+                ["bad", ..] => line.to_string(),
+                _ => words[0].to_string(),
+            };
+            *lines.entry((kind.to_string(), name)).or_default() += 1;
+        }
+        if by_argmin != by_formulas {
+            differing += 1;
+            if differing <= SHOWN {
+                writeln!(out, "session {seed} differs")?;
+            }
+        }
+    }
+    for ((kind, name), counted) in lines {
+        writeln!(out, "{counted:9}  {kind}: {name}")?;
+    }
+    writeln!(out, "{count} sessions, {differing} differ")?;
+    Ok(differing == 0)
+}
+
+#[cfg(test)]
+mod tests {
+    #[test]
+    fn argmin_and_document_agree() {
+        let mut out = Vec::new();
+        let agree = super::report(20_000, 2, &mut out).unwrap();
+        assert!(agree, "{}", String::from_utf8(out).unwrap());
+    }
+
+    #[test]
+    fn sessions_agree() {
+        let mut out = Vec::new();
+        let agree = super::report_sessions(3000, 1, &mut out).unwrap();
+        assert!(agree, "{}", String::from_utf8(out).unwrap());
+    }
+}

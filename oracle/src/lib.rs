@@ -1,0 +1,26 @@
+//! The developers' oracle: plain Rust that is run against the Rattle programs, bit for bit.
+//! README.md says which word makes which file.
+
+#[cfg(feature = "argmin")]
+pub mod agree;
+#[cfg(feature = "argmin")]
+pub mod argmin_kernels;
+#[cfg(feature = "argmin")]
+pub mod argmin_sessions;
+#[cfg(feature = "argmin")]
+mod argmin_vector;
+pub mod calls;
+pub mod cases;
+pub mod damaged;
+pub mod formulas;
+pub mod input;
+pub mod leaves;
+pub mod random;
+pub mod replay;
+pub mod roots;
+pub mod session;
+pub mod sessions;
+pub mod slips;
+pub mod step;
+pub mod tally;
+pub mod vector;

@@ -1,0 +1,512 @@
+//! The two sessions as document 01 has them: settings, phases, refusals, and what each call leaves.
+//! How a proposal is worked out and a trial judged is an engine's part: by document 01's formulas
+//! here, by argmin's own code in argmin_sessions.rs.
+
+use crate::formulas;
+use crate::step::{self, Call, Kernel};
+use crate::vector::{Matrix, Vector};
+
+/// The settings of either kind, as given.
+#[derive(Clone, Copy, Debug)]
+pub struct Settings {
+    pub kind: Kind,
+    pub kernel: u64,
+    pub radius: f64,
+    pub eta: f64,
+    pub epsilon: f64,
+    pub limit: u64,
+}
+
+#[derive(Clone, Copy, Debug)]
+pub enum Kind {
+    TrustRegion { max_radius: f64 },
+    Sr1 { factor: f64, tol_grad: f64 },
+}
+
+impl Settings {
+    fn kernel(&self) -> Option<Kernel> {
+        Some(match self.kernel {
+            1 => Kernel::Cauchy,
+            2 => Kernel::Dogleg,
+            3 => Kernel::Steihaug,
+            _ => return None,
+        })
+    }
+
+    /// All of them, whatever the kernel. A NaN is in no range.
+    fn are_sound(&self) -> bool {
+        let above_zero = |x: f64| x.is_finite() && x > 0.0;
+        let own = match self.kind {
+            Kind::TrustRegion { max_radius } => {
+                above_zero(self.radius) && above_zero(max_radius) && (0.0..0.25).contains(&self.eta)
+            }
+            Kind::Sr1 { factor, tol_grad } => {
+                above_zero(self.radius.abs())
+                    && self.eta > 0.0
+                    && self.eta < 0.01
+                    && factor > 0.0
+                    && factor < 1.0
+                    && tol_grad >= 0.0
+                    && tol_grad.is_finite()
+            }
+        };
+        own && self.kernel().is_some()
+            && above_zero(self.epsilon)
+            && self.limit <= step::LARGEST_LIMIT
+    }
+}
+
+#[derive(Clone, Copy, Debug, PartialEq)]
+pub enum Phase {
+    Ready,
+    /// The model's value (for SR1 the predicted fall P) and the step's norm. `made_up` where a
+    /// caller put them in: then no proposal of this session stands behind them.
+    Cost {
+        promised: f64,
+        norm: f64,
+        made_up: bool,
+    },
+    Derivatives,
+}
+
+/// A session and the vectors that are lent to it.
+#[derive(Clone, Debug)]
+pub struct Station {
+    pub settings: Settings,
+    pub radius: f64,
+    pub cost: f64,
+    pub phase: Phase,
+    pub point: Vector,
+    pub gradient: Vector,
+    pub hessian: Matrix,
+    pub step: Vector,
+    pub trial: Vector,
+}
+
+/// What a proposal gives.
+#[derive(Clone, Copy, Debug, PartialEq)]
+pub enum Proposal {
+    Made { passes: u64 },
+    Done,
+}
+
+/// What becomes of a trial.
+#[derive(Clone, Debug)]
+pub struct Verdict {
+    pub ratio: f64,
+    pub accepted: bool,
+    pub radius: f64,
+    /// SR1's updated Hessian.
+    pub hessian: Option<Matrix>,
+    /// The point afterwards, where an engine has its own.
+    pub point: Option<Vector>,
+}
+
+/// The answer to a trial: its cost, and for SR1 its gradient.
+pub struct Tried<'a> {
+    pub cost: f64,
+    pub gradient: Option<&'a Vector>,
+    pub promised: f64,
+    pub norm: f64,
+}
+
+/// A way to work out steps and verdicts.
+pub trait Engine {
+    fn solve(&self, call: &Call) -> Result<(Vector, u64), u8>;
+
+    /// The verdict on a trial that this session proposed.
+    fn judge(&self, station: &Station, tried: &Tried) -> Verdict;
+}
+
+impl Station {
+    /// A start takes settings and cost only.
+    pub fn start(
+        settings: Settings,
+        cost: f64,
+        point: Vector,
+        gradient: Vector,
+        hessian: Matrix,
+    ) -> Result<Station, u8> {
+        if !settings.are_sound() {
+            return Err(2);
+        }
+        if !cost.is_finite() {
+            return Err(4);
+        }
+        let zeros = Vector(vec![0.0; point.0.len()]);
+        let radius = match settings.kind {
+            Kind::TrustRegion { .. } => settings.radius,
+            Kind::Sr1 { .. } => settings.radius.abs(),
+        };
+        Ok(Station {
+            settings,
+            radius,
+            cost,
+            phase: Phase::Ready,
+            point,
+            gradient,
+            hessian,
+            step: zeros.clone(),
+            trial: zeros,
+        })
+    }
+
+    pub fn size(&self) -> usize {
+        self.point.0.len()
+    }
+
+    /// Refusals 1 and 2, which every call has. The lent vectors have the start's lengths, so n is
+    /// all that can be wrong. −0 is no negative radius.
+    fn check(&self, n: u64) -> Result<(), u8> {
+        if n != self.size() as u64 {
+            return Err(1);
+        }
+        if !(self.radius.is_finite() && self.radius >= 0.0 && self.cost.is_finite()) {
+            return Err(2);
+        }
+        Ok(())
+    }
+
+    pub fn propose(&mut self, n: u64, engine: &impl Engine) -> Result<Proposal, u8> {
+        self.check(n)?;
+        if self.phase != Phase::Ready {
+            return Err(3);
+        }
+        let entries = [&self.point.0, &self.gradient.0, self.hessian.entries()];
+        if !entries.iter().all(|numbers| all_finite(numbers)) {
+            return Err(4);
+        }
+        if let Kind::Sr1 { tol_grad, .. } = self.settings.kind {
+            if self.gradient.norm() < tol_grad {
+                return Ok(Proposal::Done);
+            }
+        }
+        if self.radius == 0.0 {
+            return Err(5);
+        }
+        let (step, passes) = engine.solve(&self.call())?;
+        let norm = step.norm();
+        let trial = plus(&step, &self.point);
+        if !(all_finite(&step.0) && norm.is_finite() && all_finite(&trial.0)) {
+            return Err(8);
+        }
+        let linear = step.dot(&self.gradient);
+        let curved = 0.5 * step.weighted_dot(&self.hessian, &step);
+        let promised = match self.settings.kind {
+            Kind::TrustRegion { .. } => (self.cost + linear) + curved,
+            Kind::Sr1 { .. } => (-linear) - curved,
+        };
+        (self.step, self.trial) = (step, trial);
+        self.phase = Phase::Cost {
+            promised,
+            norm,
+            made_up: false,
+        };
+        Ok(Proposal::Made { passes })
+    }
+
+    /// The kernel's call; the settings were checked at the start.
+    pub fn call(&self) -> Call {
+        Call {
+            kernel: self.settings.kernel().expect("a sound kernel"),
+            radius: self.radius,
+            epsilon: self.settings.epsilon,
+            limit: self.settings.limit,
+            gradient: self.gradient.clone(),
+            hessian: self.hessian.clone(),
+        }
+    }
+
+    /// The cost at the trial, and for SR1 the gradient there.
+    pub fn answer(
+        &mut self,
+        n: u64,
+        cost: f64,
+        gradient: Option<&Vector>,
+        engine: &impl Engine,
+    ) -> Result<Verdict, u8> {
+        self.check(n)?;
+        let Phase::Cost {
+            promised,
+            norm,
+            made_up,
+        } = self.phase
+        else {
+            return Err(3);
+        };
+        let mut read = vec![&self.trial.0[..]];
+        if let Some(gradient) = gradient {
+            read.extend([&self.step.0, &self.gradient.0, self.hessian.entries()]);
+            read.push(&gradient.0);
+        }
+        if !read.iter().all(|numbers| all_finite(numbers)) || cost.is_infinite() {
+            return Err(4);
+        }
+        let tried = Tried {
+            cost,
+            gradient,
+            promised,
+            norm,
+        };
+        // What was never proposed has no counterpart in argmin.
+        let verdict = if made_up {
+            Formulas.judge(self, &tried)
+        } else {
+            engine.judge(self, &tried)
+        };
+        let hessian = verdict.hessian.as_ref();
+        if !verdict.radius.is_finite() || hessian.is_some_and(|h| !all_finite(h.entries())) {
+            return Err(8);
+        }
+        self.radius = verdict.radius;
+        self.phase = Phase::Ready;
+        if verdict.accepted {
+            self.point = verdict.point.clone().unwrap_or_else(|| self.trial.clone());
+            self.cost = cost;
+            match gradient {
+                Some(gradient) => self.gradient = gradient.clone(),
+                None => self.phase = Phase::Derivatives,
+            }
+        }
+        if let Some(hessian) = hessian {
+            self.hessian = hessian.clone();
+        }
+        Ok(verdict)
+    }
+
+    /// The derivatives at an accepted point.
+    pub fn renew(&mut self, n: u64, gradient: Vector, hessian: Matrix) -> Result<(), u8> {
+        self.check(n)?;
+        if self.phase != Phase::Derivatives {
+            return Err(3);
+        }
+        if !(all_finite(&gradient.0) && all_finite(hessian.entries())) {
+            return Err(4);
+        }
+        (self.gradient, self.hessian) = (gradient, hessian);
+        self.phase = Phase::Ready;
+        Ok(())
+    }
+}
+
+/// Document 01's formulas.
+pub struct Formulas;
+
+impl Engine for Formulas {
+    fn solve(&self, call: &Call) -> Result<(Vector, u64), u8> {
+        formulas::solve(call)
+    }
+
+    fn judge(&self, station: &Station, tried: &Tried) -> Verdict {
+        match (station.settings.kind, tried.gradient) {
+            (Kind::TrustRegion { max_radius }, _) => judge_trust_region(station, tried, max_radius),
+            (Kind::Sr1 { factor, .. }, Some(next)) => judge_sr1(station, tried, factor, next),
+            (Kind::Sr1 { .. }, None) => unreachable!("SR1's answer brings a gradient"),
+        }
+    }
+}
+
+fn judge_trust_region(station: &Station, tried: &Tried, max_radius: f64) -> Verdict {
+    let (f, m, norm) = (station.cost, tried.promised, tried.norm);
+    let rho = (f - tried.cost) / (f - m);
+    let radius = if rho < 0.25 {
+        0.25 * norm
+    } else if rho > 0.75 && (norm - station.radius).abs() <= 10.0 * f64::EPSILON {
+        let doubled = 2.0 * station.radius;
+        if doubled < max_radius {
+            doubled
+        } else {
+            max_radius
+        }
+    } else {
+        station.radius
+    };
+    Verdict {
+        ratio: rho,
+        accepted: rho > station.settings.eta,
+        radius,
+        hessian: None,
+        point: None,
+    }
+}
+
+fn judge_sr1(station: &Station, tried: &Tried, factor: f64, next: &Vector) -> Verdict {
+    let (s, norm) = (&station.step, tried.norm);
+    let ap = (station.cost - tried.cost) / tried.promised;
+    let radius = if ap > 0.75 {
+        if norm <= 0.8 * station.radius {
+            station.radius
+        } else {
+            2.0 * station.radius
+        }
+    } else if (0.1..=0.75).contains(&ap) {
+        station.radius
+    } else {
+        0.5 * station.radius
+    };
+    let z = minus(&minus(next, &station.gradient), &station.hessian.times(s));
+    let q = s.dot(&z);
+    let hessian = if q.abs() >= (factor * norm) * q.abs() {
+        let n = station.size();
+        let entries = station.hessian.entries().iter().enumerate();
+        let entries = entries.map(|(k, h)| h + (z.0[k / n] * z.0[k % n]) * (1.0 / q));
+        Matrix::new(n, entries.collect())
+    } else {
+        station.hessian.clone()
+    };
+    Verdict {
+        ratio: ap,
+        accepted: ap > station.settings.eta,
+        radius,
+        hessian: Some(hessian),
+        point: None,
+    }
+}
+
+fn all_finite(numbers: &[f64]) -> bool {
+    numbers.iter().all(|x| x.is_finite())
+}
+
+fn plus(a: &Vector, b: &Vector) -> Vector {
+    Vector(a.0.iter().zip(&b.0).map(|(x, y)| x + y).collect())
+}
+
+fn minus(a: &Vector, b: &Vector) -> Vector {
+    Vector(a.0.iter().zip(&b.0).map(|(x, y)| x - y).collect())
+}
+
+#[cfg(test)]
+mod tests {
+    use super::*;
+
+    const TRUST_REGION: Settings = Settings {
+        kind: Kind::TrustRegion { max_radius: 100.0 },
+        kernel: 1,
+        radius: 1.0,
+        eta: 0.125,
+        epsilon: 1e-9,
+        limit: 5,
+    };
+
+    const SR1: Settings = Settings {
+        kind: Kind::Sr1 {
+            factor: 1e-8,
+            tol_grad: 1e-3,
+        },
+        eta: 0.5 * 1e-3,
+        ..TRUST_REGION
+    };
+
+    fn start(settings: Settings, cost: f64) -> Result<Station, u8> {
+        let identity = Matrix::new(2, vec![1.0, 0.0, 0.0, 1.0]);
+        let point = Vector(vec![0.0; 2]);
+        Station::start(settings, cost, point, Vector(vec![3.0, 4.0]), identity)
+    }
+
+    /// A station that awaits a cost.
+    fn awaiting(settings: Settings, cost: f64, promised: f64, norm: f64) -> Station {
+        let mut station = start(settings, cost).unwrap();
+        station.phase = Phase::Cost {
+            promised,
+            norm,
+            made_up: true,
+        };
+        station
+    }
+
+    /// Document 01's cases 10 to 13: ratio, accepted, radius.
+    #[test]
+    fn marked_ratios() {
+        let judged = |settings: Settings, m, norm, next| {
+            let mut station = awaiting(settings, 10.0, m, norm);
+            let verdict = station.answer(2, next, None, &Formulas).unwrap();
+            (verdict.ratio, verdict.accepted, station.radius)
+        };
+        assert_eq!(judged(TRUST_REGION, 6.0, 8.0, 9.5), (0.125, false, 2.0));
+        assert_eq!(judged(TRUST_REGION, 6.0, 8.0, 9.0), (0.25, true, 1.0));
+        let wide = Settings {
+            kind: Kind::TrustRegion { max_radius: 4.0 },
+            radius: 2.5,
+            ..TRUST_REGION
+        };
+        assert_eq!(judged(wide, 6.0, 2.5, 6.0), (1.0, true, 4.0));
+        assert_eq!(judged(TRUST_REGION, 14.0, 8.0, 12.0), (0.5, true, 1.0));
+    }
+
+    #[test]
+    fn a_nan_cost_keeps_everything() {
+        let mut station = awaiting(TRUST_REGION, 10.0, 6.0, 8.0);
+        let verdict = station.answer(2, f64::NAN, None, &Formulas).unwrap();
+        assert!(!verdict.accepted && verdict.ratio.is_nan());
+        assert_eq!((station.radius, station.phase), (1.0, Phase::Ready));
+    }
+
+    /// Document 01's cases 14 and 15.
+    #[test]
+    fn marked_updates() {
+        let updated = |difference: [f64; 2]| {
+            let mut station = awaiting(SR1, 10.0, 6.0, 1.0);
+            station.step = Vector(vec![1.0, 0.0]);
+            let next = Vector(vec![3.0 + difference[0], 4.0 + difference[1]]);
+            let verdict = station.answer(2, 9.0, Some(&next), &Formulas);
+            verdict.map(|_| station.hessian.entries().to_vec())
+        };
+        assert_eq!(updated([3.0, 0.0]), Ok(vec![3.0, 0.0, 0.0, 1.0]));
+        assert_eq!(updated([1.0, 1.0]), Err(8));
+    }
+
+    #[test]
+    fn refusals_in_order() {
+        let mut station = start(TRUST_REGION, 10.0).unwrap();
+        assert_eq!(station.answer(2, 9.0, None, &Formulas).err(), Some(3));
+        (station.radius, station.point.0[0]) = (0.0, f64::NAN);
+        assert_eq!(station.propose(3, &Formulas), Err(1));
+        assert_eq!(station.propose(2, &Formulas), Err(4));
+        station.point.0[0] = 0.0;
+        assert_eq!(station.propose(2, &Formulas), Err(5));
+        station.radius = -1.0;
+        assert_eq!(station.propose(2, &Formulas), Err(2));
+        station.radius = 1.0;
+        let made = Proposal::Made { passes: 0 };
+        assert_eq!(station.propose(2, &Formulas), Ok(made));
+        assert_eq!(station.propose(2, &Formulas), Err(3));
+        let infinite = station.answer(2, f64::INFINITY, None, &Formulas);
+        assert_eq!(infinite.err(), Some(4));
+    }
+
+    #[test]
+    fn done_comes_before_a_zero_radius() {
+        let mut station = start(SR1, 10.0).unwrap();
+        station.radius = 0.0;
+        assert_eq!(station.propose(2, &Formulas), Err(5));
+        station.gradient = Vector(vec![0.0; 2]);
+        assert_eq!(station.propose(2, &Formulas), Ok(Proposal::Done));
+    }
+
+    #[test]
+    fn starts() {
+        assert_eq!(start(TRUST_REGION, f64::NAN).err(), Some(4));
+        let with_eta = |settings: Settings, eta| start(Settings { eta, ..settings }, 1.0).err();
+        for (eta, refusal) in [
+            (0.0, None),
+            (-0.0, None),
+            (0.25, Some(2)),
+            (f64::NAN, Some(2)),
+        ] {
+            assert_eq!(with_eta(TRUST_REGION, eta), refusal);
+        }
+        for (eta, refusal) in [(0.0, Some(2)), (0.01, Some(2)), (0.0099, None)] {
+            assert_eq!(with_eta(SR1, eta), refusal);
+        }
+        let backwards = Settings {
+            radius: -2.0,
+            ..SR1
+        };
+        assert_eq!(start(backwards, 1.0).unwrap().radius, 2.0);
+        let backwards = Settings {
+            radius: -2.0,
+            ..TRUST_REGION
+        };
+        assert_eq!(start(backwards, 1.0).err(), Some(2));
+    }
+}
