@@ -7,9 +7,9 @@ use Prim.Native.Nat.{ℕ, _*_}
 use lib.IntN.{pos, negsuc}
 use lib.Ieee.{Float, fin, add, sub, mul, div, neg, lt, eq, ofBits}
 use Rattle.float.specs.Numbers.{magnitude, finite}
-use Rattle.kernels.specs.Vector.{tab, zeros, all-finite, over, less, flat, dot, dot-to}
-use Rattle.kernels.specs.Refusal.{Answer, refused, given, size, room}
-use Rattle.kernels.specs.declared.refusal.Refusal.the-variants.{Pivot}
+use Rattle.vectors.specs.Vector.{tab, zeros, all-finite, over, less, flat, dot, dot-to}
+use Rattle.vectors.specs.Refusal.{Answer, refused, given, size, room}
+use Rattle.vectors.specs.declared.refusal.Refusal.the-variants.{Pivot}
 use Rattle.kernels.specs.Inverse.{start, pivot-among, no-pivot, swapped, divided, cleared-row, cleared, column-by, column, columns, eliminated, right-row, inverse-answer}
 
 record Case : Type 0 where

@@ -1,6 +1,9 @@
-pub mod Vectors
-pub mod Slots
-pub mod Sizes
+pub mod Ops
 pub mod Rows
 pub mod Ends
 pub mod Cases
+pub mod Kernels
+pub mod CauchyPoints
+pub mod Doglegs
+pub mod Passes
+pub mod Choices

@@ -14,15 +14,16 @@ use lib.Seq.{take-nil, take-add, take-all, drop-drop, length-take-le, getD-take,
 use lib.Ieee.{Float, nan, lt}
 use borrow.Author.Tests.{eqb-true, eqb-false, eq-eqb, ne-eqb, ltb-true, ltb-false}
 use Rattle.float.specs.Numbers.{magnitude}
-use Rattle.kernels.specs.Vector.{at, tab, flat}
-use Rattle.kernels.specs.Slots.{slot, Puts}
-use Rattle.kernels.specs.Refusal.{Answer, refused, given, then, room, Roomy}
+use Rattle.vectors.specs.Vector.{at, tab, flat}
+use Rattle.vectors.specs.Slots.{slot, Puts}
+use Rattle.vectors.specs.Refusal.{Answer, refused, given, then, room, Roomy}
 use Rattle.kernels.specs.Workspace.{each}
-use Rattle.kernels.specs.declared.refusal.Refusal.the-variants.{Pivot}
+use Rattle.vectors.specs.declared.refusal.Refusal.the-variants.{Pivot}
 use Rattle.kernels.specs.declared.workspace.Op.the-variants.{Same, Over, LessTimes}
 use Rattle.kernels.specs.Inverse.{Rows, with-row, rows-in, found, entry, start, start-entry, pivot-among, pivot-row, no-pivot, swapped, divided, cleared-row, cleared, column-by, column, columns, right-row}
-use Rattle.kernels.proofs.Vectors.{tab-at, tab-same, each-same, each-over, each-less-times}
-use Rattle.kernels.proofs.Slots.{before, at-slot, length-slot, Writing, writing-other}
+use Rattle.vectors.proofs.Vectors.{tab-at, tab-same}
+use Rattle.kernels.proofs.Ops.{each-same, each-over, each-less-times}
+use Rattle.vectors.proofs.Slots.{before, at-slot, length-slot, Writing, writing-other}
 
 -- ---- room
 

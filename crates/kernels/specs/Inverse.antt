@@ -6,10 +6,10 @@ use lib.Dec.{eqb, ltb}
 use lib.Ieee.{Float, lt, eq}
 use Rattle.float.specs.Numbers.{magnitude}
 use Rattle.float.specs.Constants.{nought, one}
-use Rattle.kernels.specs.Slots.{slot}
-use Rattle.kernels.specs.Vector.{at, tab, over, less, dot, flat, all-finite}
-use Rattle.kernels.specs.Refusal.{Answer, refused, given, Check, _if_, unless, then, size, sized, room}
-use Rattle.kernels.specs.declared.refusal.Refusal.the-variants.{Size, Entry, Pivot}
+use Rattle.vectors.specs.Slots.{slot}
+use Rattle.vectors.specs.Vector.{at, tab, over, less, dot, flat, all-finite}
+use Rattle.vectors.specs.Refusal.{Answer, refused, given, Check, _if_, unless, then, size, sized, room}
+use Rattle.vectors.specs.declared.refusal.Refusal.the-variants.{Size, Entry, Pivot}
 
 -- The rows under way. Row i has 2·n numbers: a row of the left half, and the same row of the right half.
 abbrev pub Rows : Type 0

@@ -1,7 +1,8 @@
-pub mod Slots
-pub mod Vector
-pub mod Refusal
-pub mod Calls
 pub mod Workspace
 pub mod Inverse
 pub mod Ratio
+pub mod Kernel
+pub mod CauchyPoint
+pub mod Dogleg
+pub mod Steihaug
+pub mod Choice

@@ -3,7 +3,7 @@ use mathlib.Core.List.{List}
 use Prim.Native.Nat.{ℕ}
 use lib.Ieee.{Float}
 use Rattle.float.specs.Numbers.{_⊕_, _⊖_, _⊗_, _⊘_}
-use Rattle.kernels.specs.Vector.{at, tab}
+use Rattle.vectors.specs.Vector.{at, tab}
 use Rattle.kernels.specs.declared.workspace.Op.{Op}
 use Rattle.kernels.specs.declared.workspace.Op.the-variants.{Same, Times, PlusTimes, Minus, Over, LessTimes}
 

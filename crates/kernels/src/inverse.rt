@@ -1,19 +1,19 @@
 // Gauss-Jordan on [H | I]. Row i is slot 4 + i of width 2·n of the scratch w, so that its slots 0 to 7 of
 // width n are free.
-use crate::refusal;
-use crate::refusal::Outcome;
-use crate::refusal::Refusal;
-use crate::vector;
+use crate::inner;
 use crate::workspace;
 use crate::workspace::Op;
+use vectors::refusal;
+use vectors::refusal::Outcome;
+use vectors::refusal::Refusal;
 ghost use mathlib.Core.Path.{_≡_};
 ghost use mathlib.Core.Bool.{_&&_};
 ghost use Prim.Native.Nat.{_+_, _*_, _<_, _≤_};
 ghost use lib.Dec.{eqb};
 ghost use lib.ListN.{length};
-ghost use Rattle.kernels.specs.Vector.{tab, flat};
-ghost use Rattle.kernels.specs.Slots.{Puts};
-ghost use Rattle.kernels.specs.Refusal.{size, room, Roomy, Ended};
+ghost use Rattle.vectors.specs.Vector.{tab, flat};
+ghost use Rattle.vectors.specs.Slots.{Puts};
+ghost use Rattle.vectors.specs.Refusal.{size, room, Roomy, Ended};
 ghost use Rattle.kernels.specs.Inverse as Inverse;
 
 // Number k of row i of [H | I].
@@ -187,7 +187,7 @@ pub(crate) fn inverse_times(n: usize, w: &mut [f64], to: usize, g: &[f64])
     let first = to * n;
     let mut i = 0;
     while i < n {
-        let x = vector::dot_unchecked(right_row(n, w, i), g);
+        let x = inner::dot_unchecked(right_row(n, w, i), g);
         w[first + i] = x;
         i += 1;
     }
@@ -225,7 +225,7 @@ pub fn inverse(n: usize, h: &[f64], out: &mut [f64], scratch: &mut [f64]) -> Out
     if !sized(n, h.len(), out.len(), scratch.len()) {
         return Outcome::Refused(Refusal::Size);
     }
-    if !vector::all_finite(h) {
+    if !vectors::vector::all_finite(h) {
         return Outcome::Refused(Refusal::Entry);
     }
     if !eliminate(n, scratch, h) {

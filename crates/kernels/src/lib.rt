@@ -1,7 +1,11 @@
-// The trust-region kernels of argmin's solver/trustregion, and the arithmetic below them.
+// The trust-region kernels of argmin's solver/trustregion, the workspace and the inverse below them.
+pub mod cauchypoint;
+pub mod choice;
+pub mod dogleg;
+mod inner;
 pub mod inverse;
-pub mod refusal;
-pub mod vector;
+pub mod kernel;
+pub mod steihaug;
 mod workspace;
 
 ghost use mathlib.Core.Path.{_≡_};

@@ -1,13 +1,13 @@
 // Vectors of n numbers in the lent scratch w. Slot k is its k-th run of n numbers.
-use crate::vector;
+use crate::inner;
 ghost use mathlib.Core.Path.{_≡_};
 ghost use mathlib.Core.Bool.{false};
 ghost use Prim.Native.Nat.{_+_, _*_, _≤_};
 ghost use lib.Dec.{eqb};
 ghost use lib.ListN.{length};
-ghost use Rattle.kernels.specs.Vector as Vector;
-ghost use Rattle.kernels.specs.Slots.{slot, Puts};
-ghost use Rattle.kernels.specs.Refusal.{Square};
+ghost use Rattle.vectors.specs.Vector as Vector;
+ghost use Rattle.vectors.specs.Slots.{slot, Puts};
+ghost use Rattle.vectors.specs.Refusal.{Square};
 ghost use Rattle.kernels.specs.Workspace as Workspace;
 
 // x; x·a; x + y·a; x − y; x / a; x − a·y.
@@ -78,7 +78,7 @@ pub(crate) fn times(n: usize, w: &mut [f64], to: usize, h: &[f64], x: usize)
     let start = to * n;
     let mut i = 0;
     while i < n {
-        let y = vector::row_dot(n, h, i, part(n, w, x));
+        let y = inner::row_dot(n, h, i, part(n, w, x));
         w[start + i] = y;
         i += 1;
     }
@@ -89,7 +89,7 @@ pub(crate) fn dot(n: usize, w: &[f64], x: usize, y: usize) -> f64
     requires { ⌜ (x * n + n ≤ length (now w)) × (y * n + n ≤ length (now w)) ⌝ }
     ensures { λ r. ⌜ r ≡ Vector.dot (slot (now (w .entry)) n x) (slot (now (w .entry)) n y) ⌝ }
 {
-    vector::dot_unchecked(part(n, w, x), part(n, w, y))
+    inner::dot_unchecked(part(n, w, x), part(n, w, y))
 }
 
 // The dot of slot x and v.
@@ -97,7 +97,7 @@ pub(crate) fn dot_with(n: usize, w: &[f64], x: usize, v: &[f64]) -> f64
     requires { ⌜ (x * n + n ≤ length (now w)) × (length (now v) ≡ n) ⌝ }
     ensures { λ r. ⌜ r ≡ Vector.dot (slot (now (w .entry)) n x) (now (v .entry)) ⌝ }
 {
-    vector::dot_unchecked(part(n, w, x), v)
+    inner::dot_unchecked(part(n, w, x), v)
 }
 
 // The norm of slot x.
@@ -105,7 +105,7 @@ pub(crate) fn norm(n: usize, w: &[f64], x: usize) -> f64
     requires { ⌜ x * n + n ≤ length (now w) ⌝ }
     ensures { λ r. ⌜ r ≡ Vector.norm (slot (now (w .entry)) n x) ⌝ }
 {
-    vector::norm_unchecked(part(n, w, x))
+    inner::norm_unchecked(part(n, w, x))
 }
 
 // +0 throughout.

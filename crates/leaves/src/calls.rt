@@ -5,12 +5,12 @@ use crate::lists;
 use crate::lists::One;
 use crate::lists::Three;
 use crate::lists::Two;
-use kernels::refusal::Outcome;
 use stream::Filled;
 use stream::Input;
 use stream::Number;
 use stream::Output;
 use stream::Word;
+use vectors::refusal::Outcome;
 
 // 1 root x
 pub(crate) fn root(room: &mut [u8], page: &mut [u8], input: Input, output: Output) -> Step {
@@ -45,7 +45,7 @@ pub(crate) fn dot(
     let Two::Are(n, k, l, next) = read else {
         return lines::bad(page, output);
     };
-    let found = kernels::vector::dot(n, lists::first(a, k), lists::first(b, l));
+    let found = vectors::vector::dot(n, lists::first(a, k), lists::first(b, l));
     Step::Next(next, lines::answer(page, output, found))
 }
 
@@ -61,7 +61,7 @@ pub(crate) fn norm(
     let One::Is(n, k, next) = read else {
         return lines::bad(page, output);
     };
-    let found = kernels::vector::norm(n, lists::first(a, k));
+    let found = vectors::vector::norm(n, lists::first(a, k));
     Step::Next(next, lines::answer(page, output, found))
 }
 
@@ -79,7 +79,7 @@ pub(crate) fn weighted_dot(
     let Three::Are(n, k, l, m, next) = read else {
         return lines::bad(page, output);
     };
-    let found = kernels::vector::weighted_dot(
+    let found = vectors::vector::weighted_dot(
         n,
         lists::first(a, k),
         lists::first(h, l),
@@ -113,9 +113,9 @@ pub(crate) fn product(
 fn product_into(n: usize, h: &[f64], d: &[f64], out: &mut [f64], k: usize) -> Outcome {
     lists::blank(out);
     if k <= out.len() {
-        return kernels::vector::product(n, h, d, &mut out[0..k]);
+        return vectors::vector::product(n, h, d, &mut out[0..k]);
     }
-    kernels::vector::product(n, h, d, out)
+    vectors::vector::product(n, h, d, out)
 }
 
 // 7 inverse n [H], and the lengths of the lent output and scratch
@@ -175,6 +175,6 @@ pub(crate) fn row(
     let Word::Is(i, next) = number else {
         return lines::bad(page, output);
     };
-    let part = kernels::vector::row(n, lists::first(h, k), i as usize);
+    let part = vectors::vector::row(n, lists::first(h, k), i as usize);
     Step::Next(next, lines::numbers(page, output, part))
 }

@@ -1,9 +1,9 @@
 // What is written of a call: its line, and whether the run goes on.
-use kernels::refusal::Outcome;
-use kernels::refusal::Refusal;
-use kernels::vector::Number;
 use stream::Input;
 use stream::Output;
+use vectors::refusal::Outcome;
+use vectors::refusal::Refusal;
+use vectors::vector::Number;
 
 // What a call leaves to do: the next one, or nothing.
 pub(crate) enum Step {
@@ -33,7 +33,7 @@ pub(crate) fn numbers(page: &mut [u8], output: Output, v: &[f64]) -> Output {
 // `refused` and the refusal's number.
 pub(crate) fn refused(page: &mut [u8], output: Output, r: Refusal) -> Output {
     let said = stream::put_text(page, output, b"refused ");
-    let put = stream::put_whole(page, said, kernels::refusal::number(r));
+    let put = stream::put_whole(page, said, vectors::refusal::number(r));
     stream::put_line_end(page, put)
 }
 

@@ -4,7 +4,7 @@ use native.Mathlib.Omega.{arith}
 use denote.Ref.{now}
 use Prim.Native.Nat.{_+_}
 use borrow.Author.Needs.{needs}
-use Rattle.kernels.proofs.Slots.{at-slot}
+use Rattle.vectors.proofs.Slots.{at-slot}
 use Rattle.kernels.proofs.Rows.{row-room}
 use Rattle.kernels.proofs.inverse.entry.Statement.{statement}
 use Rattle.kernels.proofs.inverse.entry.Tie as tie

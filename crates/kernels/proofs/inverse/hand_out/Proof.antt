@@ -4,7 +4,7 @@ use Prim.Native.Nat.{_-_, _≤_}
 use native.Mathlib.Omega.{arith}
 use borrow.Author.Needs.{needs}
 use Rattle.kernels.specs.Inverse.{rows-in, right-row}
-use Rattle.kernels.proofs.Sizes.{row-inside}
+use Rattle.vectors.proofs.Sizes.{row-inside}
 use Rattle.kernels.proofs.Rows.{Laying, laying-none, laying-more₀, laid-flat}
 use Rattle.kernels.proofs.inverse.hand_out.Statement.{statement}
 use Rattle.kernels.proofs.inverse.hand_out.Tie as tie

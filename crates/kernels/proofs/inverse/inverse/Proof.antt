@@ -5,9 +5,9 @@ use Prim.Native.Nat.{_*_}
 use lib.ListN.{length}
 use denote.Ref.{now}
 use borrow.Author.Needs.{needs}
-use Rattle.kernels.specs.Vector.{all-finite}
-use Rattle.kernels.specs.Refusal.{size, sized, room}
-use Rattle.kernels.proofs.Sizes.{failed, passed}
+use Rattle.vectors.specs.Vector.{all-finite}
+use Rattle.vectors.specs.Refusal.{size, sized, room}
+use Rattle.vectors.proofs.Sizes.{failed, passed}
 use Rattle.kernels.proofs.Rows.{roomy-same}
 use Rattle.kernels.proofs.Ends.{Lent, lent-true, bad-size, bad-entry, bad-pivot, inverted}
 use Rattle.kernels.proofs.inverse.inverse.Statement.{statement}

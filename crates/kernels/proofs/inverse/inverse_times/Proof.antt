@@ -4,7 +4,7 @@ use Prim.Native.Nat.{_-_}
 use native.Mathlib.Omega.{arith}
 use borrow.Author.Needs.{needs}
 use Rattle.kernels.specs.Inverse.{rows-in, right-row, inverse-times-at, inverse-times}
-use Rattle.kernels.proofs.Slots.{Writing, writing-none, writing-more, writing-done}
+use Rattle.vectors.proofs.Slots.{Writing, writing-none, writing-more, writing-done}
 use Rattle.kernels.proofs.Rows.{roomy-same, low-room, low-writing}
 use Rattle.kernels.proofs.inverse.inverse_times.Statement.{statement}
 use Rattle.kernels.proofs.inverse.inverse_times.Tie as tie

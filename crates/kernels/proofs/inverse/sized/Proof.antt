@@ -3,7 +3,7 @@ use Prim.Native.Nat.{_*_, _≤_}
 use native.Mathlib.Omega.{arith}
 use borrow.Author.Needs.{needs}
 use borrow.Author.Tests.{eq-eqb, ne-eqb}
-use Rattle.kernels.proofs.Sizes.{failed, passed, square-true, square-small}
+use Rattle.vectors.proofs.Sizes.{failed, passed, square-true, square-small}
 use Rattle.kernels.proofs.inverse.sized.Statement.{statement}
 use Rattle.kernels.proofs.inverse.sized.Tie as tie
 

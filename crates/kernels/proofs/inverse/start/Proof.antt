@@ -4,7 +4,7 @@ use Prim.Native.Nat.{_+_, _-_, _≤_}
 use native.Mathlib.Omega.{arith}
 use denote.Ref.{now}
 use borrow.Author.Needs.{needs}
-use Rattle.kernels.specs.Vector.{tab}
+use Rattle.vectors.specs.Vector.{tab}
 use Rattle.kernels.specs.Inverse.{start-entry}
 use Rattle.kernels.proofs.Rows.{Laying, laying-none, laying-more, laid-start, roomy-same}
 use Rattle.kernels.proofs.inverse.start.Statement.{statement}

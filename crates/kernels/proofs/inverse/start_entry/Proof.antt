@@ -2,7 +2,7 @@
 use native.Mathlib.Omega.{arith}
 use borrow.Author.Needs.{needs}
 use borrow.Author.Tests.{lt-ltb, le-ltb, eq-eqb, ne-eqb}
-use Rattle.kernels.proofs.Sizes.{row-inside}
+use Rattle.vectors.proofs.Sizes.{row-inside}
 use Rattle.kernels.proofs.inverse.start_entry.Statement.{statement}
 use Rattle.kernels.proofs.inverse.start_entry.Tie as tie
 

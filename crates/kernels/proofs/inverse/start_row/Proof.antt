@@ -3,7 +3,7 @@ use Prim.Native.Nat.{_+_, _-_}
 use native.Mathlib.Omega.{arith}
 use borrow.Author.Needs.{needs}
 use Rattle.kernels.specs.Inverse.{start-entry}
-use Rattle.kernels.proofs.Slots.{Writing, writing-none, writing-more, writing-done}
+use Rattle.vectors.proofs.Slots.{Writing, writing-none, writing-more, writing-done}
 use Rattle.kernels.proofs.Rows.{row-room}
 use Rattle.kernels.proofs.inverse.start_row.Statement.{statement}
 use Rattle.kernels.proofs.inverse.start_row.Tie as tie

@@ -4,8 +4,8 @@ use Prim.Native.Nat.{_-_}
 use lib.ListN.{length}
 use borrow.Author.Needs.{needs}
 use Rattle.float.specs.Constants.{nought}
-use Rattle.kernels.specs.Vector.{zeros}
-use Rattle.kernels.proofs.Slots.{Writing, filling-none, filling-more, filling-done}
+use Rattle.vectors.specs.Vector.{zeros}
+use Rattle.vectors.proofs.Slots.{Writing, filling-none, filling-more, filling-done}
 use Rattle.kernels.proofs.workspace.clear.Statement.{statement}
 use Rattle.kernels.proofs.workspace.clear.Tie as tie
 

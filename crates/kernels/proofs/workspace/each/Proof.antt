@@ -2,9 +2,9 @@
 use mathlib.Core.Path.{_∙_}
 use Prim.Native.Nat.{_-_}
 use borrow.Author.Needs.{needs}
-use Rattle.kernels.specs.Slots.{slot}
+use Rattle.vectors.specs.Slots.{slot}
 use Rattle.kernels.specs.Workspace.{each-at, each}
-use Rattle.kernels.proofs.Slots.{Writing, writing-none, writing-read, writing-more, writing-done}
+use Rattle.vectors.proofs.Slots.{Writing, writing-none, writing-read, writing-more, writing-done}
 use Rattle.kernels.proofs.workspace.each.Statement.{statement}
 use Rattle.kernels.proofs.workspace.each.Tie as tie
 

@@ -2,8 +2,8 @@
 use native.Mathlib.Nat.{add-sub-cancel-left}
 use denote.Ref.{now}
 use borrow.Author.Needs.{needs}
-use Rattle.kernels.specs.Slots.{slot}
-use Rattle.kernels.proofs.Slots.{length-slot}
+use Rattle.vectors.specs.Slots.{slot}
+use Rattle.vectors.proofs.Slots.{length-slot}
 use Rattle.kernels.proofs.workspace.part.Statement.{statement}
 use Rattle.kernels.proofs.workspace.part.Tie as tie
 

@@ -2,9 +2,9 @@
 use Prim.Native.Nat.{_-_}
 use denote.Ref.{now}
 use borrow.Author.Needs.{needs}
-use Rattle.kernels.specs.Vector.{at}
-use Rattle.kernels.proofs.Vectors.{tab-at}
-use Rattle.kernels.proofs.Slots.{Writing, writing-none, writing-more, writing-done}
+use Rattle.vectors.specs.Vector.{at}
+use Rattle.vectors.proofs.Vectors.{tab-at}
+use Rattle.vectors.proofs.Slots.{Writing, writing-none, writing-more, writing-done}
 use Rattle.kernels.proofs.workspace.put.Statement.{statement}
 use Rattle.kernels.proofs.workspace.put.Tie as tie
 

@@ -2,9 +2,9 @@
 use mathlib.Core.Path.{_∙_}
 use Prim.Native.Nat.{_-_}
 use borrow.Author.Needs.{needs}
-use Rattle.kernels.specs.Slots.{slot}
-use Rattle.kernels.specs.Vector.{times-at, times}
-use Rattle.kernels.proofs.Slots.{Writing, writing-none, writing-more, writing-other, writing-done}
+use Rattle.vectors.specs.Slots.{slot}
+use Rattle.vectors.specs.Vector.{times-at, times}
+use Rattle.vectors.proofs.Slots.{Writing, writing-none, writing-more, writing-other, writing-done}
 use Rattle.kernels.proofs.workspace.times.Statement.{statement}
 use Rattle.kernels.proofs.workspace.times.Tie as tie
 

@@ -1,0 +1,25 @@
+-- `case::solve` meets its contract. Assumes nothing.
+use native.Mathlib.Omega.{arith}
+use borrow.Author.Needs.{needs}
+use Rattle.vectors.proofs.Sizes.{square-small}
+use Rattle.case.proofs.Runs.{run-read}
+use Rattle.case.proofs.solve.Statement.{statement}
+use Rattle.case.proofs.solve.Tie as tie
+
+returns : tie.Need-returns
+returns c =
+    let ran = c .before .before .before .before in
+    let filled = ran .before .before .before .before .before .before .before .before .before .before .before in
+    let start = filled .before .before .before .before .before .before .before .before .before .before .before in
+    run-read _ _ _ _ _ _ _ _ _ _ _ _ _ _ _ (start .pre .1) (start .pre .0 .long) (filled .before .before .before .before .fill .ensures) (filled .fill2 .ensures)
+    (ran .before .before .before .before .before .before .before .before .word .ensures) (ran .before .before .before .before .before .before .before .number .ensures) (ran .before .before .before .before .before .before .number2 .ensures) (ran .before .before .before .before .before .word2 .ensures) (ran .run .ensures)
+
+pub solve-spec : {M : Type 1} → statement M
+solve-spec =
+    tie.close
+    (tie.spec
+    (λ c κs. search needs) (λ c. search needs)
+    (λ c κs. let square = c .before .before .before .before .before .before .before .before .before .before .pre .0 in (omega arith, omega (arith, square-small _ (square .high))))
+    (λ c κs. search needs) (λ c κs. search needs) (λ c κs. search needs) (λ c κs. search needs) (λ c κs. search needs)
+    (λ c. search needs) (λ c. search needs) (λ c. search needs) (λ c. search needs)
+    returns)

@@ -1,0 +1,190 @@
+-- What kernels share, over the values: their checks, the answers they may give, and how they end. Assumes nothing.
+use mathlib.Core.Path.{_≡_, refl, sym, _∙_, ap}
+use mathlib.Core.Bool.{Bool, true, false, cond, not, _&&_}
+use mathlib.Core.List.{List, [], _∷_, _++_, append-nil}
+use Prim.Native.Nat.{ℕ, _+_, _*_, _-_, _≤_}
+use native.Mathlib.Omega.{arith}
+use lib.Dec.{eqb, leb}
+use lib.ListN.{length, take, drop, length-drop, drop-of-length-le}
+use lib.Seq.{take-at, take-all}
+use lib.Ieee.{Float}
+use borrow.Rule.Slice.PartMut.{midOf, putMid}
+use borrow.Author.Tests.{eqb-true}
+use Rattle.vectors.specs.Vector.{zeros, all-finite}
+use Rattle.vectors.specs.Slots.{slot, Puts}
+use Rattle.kernels.specs.Workspace.{each}
+use Rattle.vectors.specs.Refusal.{Answer, refused, given, Check, _if_, unless, judged, then, number, size, sized, room, Square, Roomy}
+use Rattle.kernels.specs.Kernel.{Kernel, Made, made, handed-out, sound-step, positive, Proper, stepped, laid-out, Laid, handed-over, Took, kernel-checks, called}
+use Rattle.vectors.specs.declared.refusal.Refusal.{Refusal}
+use Rattle.vectors.specs.declared.refusal.Refusal.the-variants.{Size, Setting, Entry, Range}
+use Rattle.vectors.specs.declared.refusal.Verdict.{Verdict}
+use Rattle.vectors.specs.declared.refusal.Verdict.the-variants.{Passed, Failed}
+use Rattle.kernels.specs.declared.kernel.Stepped.{Stepped}
+use Rattle.kernels.specs.declared.kernel.Stepped.the-variants.{In, Refused}
+use Rattle.kernels.specs.declared.workspace.Op.the-variants.{Same}
+use Rattle.kernels.proofs.Ops.{each-same}
+use Rattle.vectors.proofs.Slots.{length-slot}
+use Rattle.vectors.proofs.Sizes.{both, shaped-true}
+use Rattle.kernels.proofs.Rows.{low-room}
+
+-- ---- a list of checks, and the verdict on it
+
+passed-one : {A : Type 0} (b : Bool) (r : Refusal) (v : Verdict) (o a : Answer A) → (v ≡ Passed → o ≡ a) → cond b (Failed r) v ≡ Passed → cond b (refused r) o ≡ a
+passed-one true r v o a f e = cc
+passed-one false r v o a f e = f e
+
+pub unless-passed : {A : Type 0} (cs : List Check) (a : Answer A) → judged cs ≡ Passed → unless cs a ≡ a
+unless-passed [] a e = refl
+unless-passed (c ∷ cs) a e = passed-one (c .applies) (c .refusal) (judged cs) (unless cs a) a (unless-passed cs a) e
+
+failed-one : {A : Type 0} (b : Bool) (r s : Refusal) (v : Verdict) (o : Answer A) → (v ≡ Failed s → o ≡ refused s) → cond b (Failed r) v ≡ Failed s → cond b (refused r) o ≡ refused s
+failed-one true r s v o f e = cc
+failed-one false r s v o f e = f e
+
+pub unless-failed : {A : Type 0} (cs : List Check) (a : Answer A) (r : Refusal) → judged cs ≡ Failed r → unless cs a ≡ refused r
+unless-failed [] a r e = cc
+unless-failed (c ∷ cs) a r e = failed-one (c .applies) (c .refusal) r (judged cs) (unless cs a) (unless-failed cs a r) e
+
+-- checks that refuse by 1 to 5 alone, which leaves the scratch as it was
+abbrev pub Early : List Check → Type 0
+Early [] = Unit {0}
+Early (c ∷ cs) = (leb (number (c .refusal)) 5 ≡ true) × Early cs
+
+early-one : (b : Bool) (r s : Refusal) (v : Verdict) → leb (number r) 5 ≡ true → (v ≡ Failed s → leb (number s) 5 ≡ true) → cond b (Failed r) v ≡ Failed s → leb (number s) 5 ≡ true
+early-one true r s v h f e = let same : s ≡ r = cc in rw same h
+early-one false r s v h f e = f e
+
+pub early : (cs : List Check) (r : Refusal) → Early cs → judged cs ≡ Failed r → leb (number r) 5 ≡ true
+early [] r h e = absurd (let z : _≡_ {A = ℕ} 0 1 = cc in omega arith)
+early (c ∷ cs) r h e = early-one (c .applies) (c .refusal) r (judged cs) (h .0) (early cs r (h .1)) e
+
+-- the first of the checks has passed where all have
+pub first-passed : (t : Bool) (r : Refusal) (cs : List Check) → judged ((r if not t) ∷ cs) ≡ Passed → t ≡ true
+first-passed true r cs e = refl
+first-passed false r cs e = cc
+
+-- what a kernel was lent, where its sizes are right
+pub record Lent (n h g s scratch : ℕ) : Type 0 where
+  pub square : Square n h
+  pub gradient : g ≡ n
+  pub step : s ≡ n
+  pub roomy : Roomy n scratch
+
+pub lent-true : (n h g step scratch : ℕ) → (size n && eqb h (n * n) && eqb g n && eqb step n && eqb scratch (room n)) ≡ true → Lent n h g step scratch
+lent-true n h g step scratch e =
+    let p = both (size n && eqb h (n * n) && eqb g n && eqb step n) (eqb scratch (room n)) e in
+    let s = shaped-true n h g step (p .0) in
+    record { square = s .square; gradient = s .first; step = s .second; roomy = record { high = s .square .high; long = eqb-true scratch (room n) (p .1) } }
+
+-- what `lay` and `hand_over` ask of it
+pub lay-ready : {n h g s scratch : ℕ} → Lent n h g s scratch → Square n h × (g ≡ n) × Roomy n scratch
+lay-ready l = (l .square, l .gradient, l .roomy)
+
+pub over-ready : {n h g s scratch : ℕ} (scratch′ : ℕ) → Lent n h g s scratch → scratch′ ≡ scratch → (s ≡ n) × (n ≤ scratch′)
+over-ready {n} scratch′ l e = (l .step, omega (arith, low-room (l .roomy) 0 (omega arith)))
+
+-- v is the code's verdict
+module _ (settings : Bool) (n : ℕ) (radius : Float) (g H step w : List Float) (v : Verdict) (judges : v ≡ judged (kernel-checks settings n radius g H step w)) where
+  pub lent : v ≡ Passed → Lent n (length H) (length g) (length step) (length w)
+  lent e =
+      lent-true n (length H) (length g) (length step) (length w)
+      (first-passed (size n && sized (n * n) H && sized n g && sized n step && sized (room n) w) Size ((Setting if not (positive radius && settings)) ∷ (Entry if not (all-finite g && all-finite H)) ∷ []) (sym judges ∙ e))
+
+  -- a kernel that they end
+  pub took-none : (kernel : Kernel) (r : Refusal) → v ≡ Failed r → Took (called settings kernel n radius g H step w) (Refused r) step step w w
+  unfolding called
+  took-none kernel r e =
+      let cs = kernel-checks settings n radius g H step w in
+      rw (unless-failed cs (kernel n radius g H) r (sym judges ∙ e)) (record { says = refl; leaves = refl; clears = rw (early cs r (refl, (refl, (refl, tt))) (sym judges ∙ e)) })
+
+-- ---- the answers that a kernel may give
+
+-- a refusal from 6 on
+abbrev pub Late : {A : Type 0} → Answer A → Type 0
+Late (refused r) = leb (number r) 5 ≡ false
+Late (given a) = Unit {0}
+
+pub then-late : {A B : Type 0} (f : A → Answer B) (o : Answer A) → Late o → ((a : A) → Late (f a)) → Late (then f o)
+then-late f (refused r) l h = l
+then-late f (given a) l h = h a
+
+pub then-proper : {A : Type 0} (n : ℕ) (f : A → Answer Made) (o : Answer A) → Late o → ((a : A) → Proper n (f a)) → Proper n (then f o)
+then-proper n f (refused r) l h = l
+then-proper n f (given a) l h = h a
+
+handed-one : (n : ℕ) (b : Bool) (m : Made) → length (m .step) ≡ n → Proper n (cond b (refused Range) (given m))
+handed-one n true m e = refl
+handed-one n false m e = e
+
+pub handed-proper : (n : ℕ) (m : Made) → length (m .step) ≡ n → Proper n (handed-out m)
+unfolding handed-out
+handed-proper n m e = handed-one n (not (sound-step (m .step))) m e
+
+pub then-handed : (n : ℕ) (o : Answer Made) → Proper n o → Proper n (then handed-out o)
+then-handed n (refused r) p = p
+then-handed n (given m) p = handed-proper n m p
+
+-- ---- how a kernel ends for a session
+
+-- only the scratch's length counts
+laid-length : (n : ℕ) (a : Answer Made) (w₁ w : List Float) → Proper n a → length w₁ ≡ length w → laid-out a w₁ ≡ laid-out a w
+laid-length n (refused r) w₁ w p l = rw p (ap zeros l)
+laid-length n (given m) w₁ w p l = ap (λ (k : ℕ). m .step ++ zeros (k - length (m .step))) l
+
+pub laid-same : (n : ℕ) (a b : Answer Made) (r : Stepped) (w₁ w w′ : List Float) → Proper n b → a ≡ b → length w₁ ≡ length w → Laid a r w₁ w′ → Laid b r w w′
+laid-same n a b r w₁ w w′ p e l h = record { says = h .says ∙ ap stepped e; lays = h .lays ∙ ap (λ (x : Answer Made). laid-out x w₁) e ∙ laid-length n b w₁ w p l }
+
+pub laid-none : (cs : List Check) (a : Answer Made) (r : Refusal) (w : List Float) → Early cs → judged cs ≡ Failed r → Laid (unless cs a) (Refused r) w w
+laid-none cs a r w h e = rw (unless-failed cs a r e) (record { says = refl; lays = rw (early cs r h e) })
+
+-- `settle`, by the test of the step
+module _ (n k passes : ℕ) (w u : List Float) (e : u ≡ slot w n k) where
+  pub unsettled : (w′ : List Float) → sound-step u ≡ false → w′ ≡ zeros (length w) → Laid (handed-out (made passes (slot w n k))) (Refused Range) w w′
+  unfolding handed-out
+  unsettled w′ t z = rw (← e, t) (record { says = refl; lays = z })
+
+  pub settled : (w₁ ys : List Float) → sound-step u ≡ true → k * n + n ≤ length w → Puts w n 0 (each n Same (slot w n k) (slot w n k)) w₁ → length w₁ ≡ length w
+      → ys ≡ zeros (length (midOf n (length w₁ - n) w₁)) → Laid (handed-out (made passes (slot w n k))) (In passes) w (putMid n (length w₁ - n) w₁ ys)
+  unfolding handed-out slot
+  settled w₁ ys t h p l z =
+      let long : length (slot w n k) ≡ n = length-slot w n k h in
+      let none : 0 * n ≡ 0 = omega arith in
+      let first : take n w₁ ≡ slot w n k = rw none at (p 0 ∙ each-same n (slot w n k) (slot w n k) long) in
+      let size : length (drop n w₁) ≡ length w₁ - n = length-drop n w₁ in
+      let behind : drop (length w₁ - n) (drop n w₁) ≡ [] = drop-of-length-le (drop n w₁) {i = length w₁ - n} (omega (arith, size)) in
+      let all : take (length w₁ - n) (drop n w₁) ≡ drop n w₁ = take-all (length w₁ - n) (drop n w₁) (omega (arith, size)) in
+      let zeroed : ys ≡ zeros (length w - length (slot w n k)) = z ∙ rw (all, size, long, l) in
+      rw (← e, t) (record { says = refl; lays = rw (first, behind, zeroed, append-nil, e) })
+
+-- ---- how it ends for a direct caller
+
+slot-laid : (v u : List Float) (n : ℕ) → length v ≡ n → slot (v ++ u) n 0 ≡ v
+unfolding slot
+slot-laid v u n e = let none : 0 * n ≡ 0 = omega arith in rw none (take-at v u n e)
+
+-- from what a kernel laid out in w₁ and `hand_over` made of it
+module _ (n : ℕ) (found r : Stepped) (step step′ w w₁ w′ : List Float) (l : length w₁ ≡ length w)
+    (h : (r ≡ found) × (step′ ≡ handed-over found (slot w₁ n 0) step) × (w′ ≡ zeros (length w₁))) where
+  took-one : (a : Answer Made) → Proper n a → Laid a found w w₁ → Took a r step step′ w w′
+  took-one (refused x) p laid = record {
+    says = h .0 ∙ laid .says;
+    leaves = h .1 ∙ ap (λ (s : Stepped). handed-over s (slot w₁ n 0) step) (laid .says);
+    clears = rw p (h .2 ∙ ap zeros l);
+  }
+  took-one (given m) p laid = record {
+    says = h .0 ∙ laid .says;
+    leaves = h .1 ∙ ap (λ (s : Stepped). handed-over s (slot w₁ n 0) step) (laid .says) ∙ ap (λ (u : List Float). slot u n 0) (laid .lays) ∙ slot-laid (m .step) _ n p;
+    clears = h .2 ∙ ap zeros l;
+  }
+
+  pub took : (settings : Bool) (kernel : Kernel) (radius : Float) (g H : List Float) (v : Verdict) → v ≡ judged (kernel-checks settings n radius g H step w) → v ≡ Passed
+      → Proper n (kernel n radius g H) → Laid (kernel n radius g H) found w w₁ → Took (called settings kernel n radius g H step w) r step step′ w w′
+  unfolding called
+  took settings kernel radius g H v j e p laid = rw (unless-passed (kernel-checks settings n radius g H step w) (kernel n radius g H) (sym j ∙ e)) (took-one (kernel n radius g H) p laid)
+
+-- any two results that meet a contract are the same
+pub took-same : (a : Answer Made) (r r₂ : Stepped) (s s′ s″ w w′ w″ : List Float) → Took a r s s′ w w′ → Took a r₂ s s″ w w″ → (r ≡ r₂) × (s′ ≡ s″) × (w′ ≡ w″)
+took-same a r r₂ s s′ s″ w w′ w″ p q = (cc, cc, cc)
+
+pub laid-one : (a : Answer Made) (r r₂ : Stepped) (w w′ w″ : List Float) → Laid a r w w′ → Laid a r₂ w w″ → (r ≡ r₂) × (w′ ≡ w″)
+laid-one a r r₂ w w′ w″ p q = (cc, cc)

@@ -1,0 +1,18 @@
+-- `kernels::dogleg::unconstrained` meets its contract. Assumes nothing.
+use borrow.Author.Needs.{needs}
+use Rattle.kernels.proofs.Doglegs.{unconstraineds}
+use Rattle.kernels.proofs.dogleg.unconstrained.Statement.{statement}
+use Rattle.kernels.proofs.dogleg.unconstrained.Tie as tie
+
+returns : tie.Need-returns
+returns c =
+    let scaled = c .before .before in
+    let weighted = scaled .before .before in
+    unconstraineds _ _ _ _ _ _ _ _ (weighted .before .before .before .before .put .ensures) (weighted .before .dot-unchecked .ensures) (weighted .weighted-unchecked .ensures) (scaled .each .ensures)
+
+pub unconstrained-spec : {M : Type 1} → statement M
+unconstrained-spec =
+    tie.close
+    (tie.spec
+    (λ c κs. search needs) (λ c κs. search needs) (λ c κs. search needs) (λ c κs. search needs) (λ c. search needs)
+    returns)

@@ -1,0 +1,23 @@
+-- `kernels::kernel::checked` meets its contract. Assumes nothing.
+use borrow.Author.Needs.{needs}
+use Rattle.vectors.proofs.Sizes.{failed, passed}
+use Rattle.kernels.proofs.kernel.checked.Statement.{statement}
+use Rattle.kernels.proofs.kernel.checked.Tie as tie
+
+pub checked-spec : {M : Type 1} → statement M
+checked-spec =
+    tie.close
+    (tie.spec
+    (λ c κs. search needs)
+    (λ c. rw (failed (c .before .sized .ensures) (c .if1 .taken)))
+    (λ c κs. search needs)
+    (λ c. let sizes = c .before .before in rw (passed (sizes .before .sized .ensures) (sizes .if1 .left), failed (c .before .settings-right .ensures) (c .if2 .taken)))
+    (λ c κs. search needs)
+    (λ c.
+    let settings = c .before .before in
+    let sizes = settings .before .before in
+    rw (passed (sizes .before .sized .ensures) (sizes .if1 .left), passed (settings .before .settings-right .ensures) (settings .if2 .left), failed (c .before .entries-finite .ensures) (c .if3 .taken)))
+    (λ c.
+    let settings = c .before .before in
+    let sizes = settings .before .before in
+    rw (passed (sizes .before .sized .ensures) (sizes .if1 .left), passed (settings .before .settings-right .ensures) (settings .if2 .left), passed (c .before .entries-finite .ensures) (c .if3 .left))))

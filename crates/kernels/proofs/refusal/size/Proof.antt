@@ -1,9 +1,0 @@
--- `kernels::refusal::size` meets its contract. Assumes nothing.
-use borrow.Author.Tests.{le-leb, lt-leb}
-use Rattle.kernels.specs.Refusal.{size}
-use Rattle.kernels.proofs.refusal.size.Statement.{statement}
-use Rattle.kernels.proofs.refusal.size.Tie as tie
-
-pub size-spec : {M : Type 1} → statement M
-unfolding size
-size-spec = tie.close (tie.spec (λ c. rw (lt-leb _ _ (c .if1 .taken))) (λ c. simp (le-leb _ _ (c .if1 .left))))

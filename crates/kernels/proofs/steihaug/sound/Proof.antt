@@ -1,0 +1,13 @@
+-- `kernels::steihaug::sound` meets its contract. Assumes nothing.
+use borrow.Author.Needs.{needs}
+use Rattle.vectors.proofs.Sizes.{failed, passed}
+use Rattle.kernels.proofs.steihaug.sound.Statement.{statement}
+use Rattle.kernels.proofs.steihaug.sound.Tie as tie
+
+pub sound-spec : {M : Type 1} → statement M
+sound-spec =
+    tie.close
+    (tie.spec
+    (λ c κs. search needs)
+    (λ c. simp (failed (c .before .positive .ensures) (c .if1 .taken)))
+    (λ c. simp (passed (c .before .positive .ensures) (c .if1 .left))))

@@ -1,0 +1,129 @@
+// Dogleg: along the steepest descent to its minimum, then towards Newton's point, up to the radius
+// (Nocedal and Wright, Numerical Optimization, section 4.1).
+use crate::inner;
+use crate::inverse;
+use crate::kernel;
+use crate::kernel::Stepped;
+use crate::workspace;
+use crate::workspace::Op;
+use vectors::refusal::Refusal;
+use vectors::refusal::Verdict;
+ghost use mathlib.Core.Path.{_≡_};
+ghost use mathlib.Core.Bool.{true};
+ghost use Prim.Native.Nat.{_*_, _≤_};
+ghost use lib.ListN.{length};
+ghost use Rattle.float.specs.Constants.{nought};
+ghost use Rattle.vectors.specs.Slots.{slot};
+ghost use Rattle.vectors.specs.Refusal.{Square, Roomy};
+ghost use Rattle.kernels.specs.Kernel.{Laid, Took, called};
+ghost use Rattle.kernels.specs.Inverse.{rows-in};
+ghost use Rattle.kernels.specs.Dogleg as Dogleg;
+
+// A candidate outside [0, 2] is not kept; one that is kept replaces a lesser or equal one.
+fn keep(held: f64, t: f64) -> f64
+    ensures { λ r. ⌜ r ≡ Dogleg.keep held t ⌝ }
+{
+    if !(t >= 0.0) {
+        return held;
+    }
+    if !(t <= 2.0) {
+        return held;
+    }
+    if !(t >= held) {
+        return held;
+    }
+    t
+}
+
+// How far along the bent path: its first leg ends at 1, its second at 2.
+fn tau(c: f64, k: f64, u: f64, delta_squared: f64) -> f64
+    ensures { λ r. ⌜ r ≡ Dogleg.kept-from nought (Dogleg.candidates c k u «delta_squared») ⌝ }
+{
+    let t = root::root(c * c + delta_squared * k - k * u);
+    let first = keep(0.0, -(t + c - k) / k);
+    let second = keep(first, (t - c + k) / k);
+    keep(second, (2.0 * c + delta_squared - u) / (2.0 * c))
+}
+
+// Slot 0 takes the point at tau on the path, where slot 1 is pu and slot 2 is v.
+fn bent(n: usize, w: &mut [f64], tau: f64)
+    requires { ⌜ 3 * n ≤ length (now w) ⌝ }
+    ensures { λ _. ⌜ slot (now (w .exit)) n 0 ≡ Dogleg.bent n tau (slot (now (w .entry)) n 1) (slot (now (w .entry)) n 2) ⌝ }
+{
+    if tau < 1.0 {
+        workspace::each(n, w, 0, Op::Times(tau), 1, 1);
+        return;
+    }
+    workspace::each(n, w, 0, Op::PlusTimes(tau - 1.0), 1, 2);
+}
+
+// Slot 0 takes pb, for which `eliminate` left its rows in w.
+fn newton(n: usize, w: &mut [f64], g: &[f64])
+    requires { ⌜ Roomy n (length (now w)) × (length (now g) ≡ n) ⌝ }
+    ensures { λ _. ⌜ slot (now (w .exit)) n 0 ≡ Dogleg.newton n (rows-in (now (w .entry)) n) (now (g .entry)) ⌝ }
+{
+    inverse::inverse_times(n, w, 0, g);
+    workspace::each(n, w, 0, Op::Times(-1.0), 0, 0);
+}
+
+// Slot 1 takes pu; slot 0 stays.
+fn unconstrained(n: usize, w: &mut [f64], g: &[f64], h: &[f64])
+    requires { ⌜ Square n (length (now h)) × (length (now g) ≡ n) × (3 * n ≤ length (now w)) ⌝ }
+    ensures { λ _. ⌜ (slot (now (w .exit)) n 1 ≡ Dogleg.unconstrained n (now (g .entry)) (now (h .entry))) × (slot (now (w .exit)) n 0 ≡ slot (now (w .entry)) n 0) ⌝ }
+{
+    workspace::put(n, w, 1, g);
+    let factor = -inner::dot_unchecked(g, g) / inner::weighted_unchecked(n, g, h, g);
+    workspace::each(n, w, 1, Op::Times(factor), 1, 1);
+}
+
+// Slot 0 has pb, and takes the step.
+fn step(n: usize, radius: f64, g: &[f64], h: &[f64], w: &mut [f64])
+    requires { ⌜ Square n (length (now h)) × (length (now g) ≡ n) × (3 * n ≤ length (now w)) ⌝ }
+    ensures { λ _. ⌜ slot (now (w .exit)) n 0 ≡ Dogleg.dogleg-step n radius (slot (now (w .entry)) n 0) (Dogleg.unconstrained n (now (g .entry)) (now (h .entry))) ⌝ }
+{
+    if workspace::norm(n, w, 0) <= radius {
+        return;
+    }
+    unconstrained(n, w, g, h);
+    workspace::each(n, w, 2, Op::Minus, 0, 1);
+    let c = workspace::dot(n, w, 1, 2);
+    let k = workspace::dot(n, w, 2, 2);
+    let u = workspace::dot(n, w, 1, 1);
+    bent(n, w, tau(c, k, u, radius * radius));
+}
+
+// The kernel for a session, which has made its own checks.
+pub(crate) fn lay(n: usize, radius: f64, g: &[f64], h: &[f64], w: &mut [f64]) -> Stepped
+    requires { ⌜ Square n (length (now h)) × (length (now g) ≡ n) × Roomy n (length (now w)) ⌝ }
+    ensures { λ r. ⌜ Laid (Dogleg.dogleg n radius (now (g .entry)) (now (h .entry))) r (now (w .entry)) (now (w .exit)) ⌝ }
+{
+    if !inverse::eliminate(n, w, h) {
+        workspace::clear(w);
+        return Stepped::Refused(Refusal::Pivot);
+    }
+    newton(n, w, g);
+    step(n, radius, g, h, w);
+    kernel::settle(n, w, 0, 0)
+}
+
+// The kernel for a direct caller.
+pub fn dogleg(
+    n: usize,
+    radius: f64,
+    gradient: &[f64],
+    hessian: &[f64],
+    step: &mut [f64],
+    scratch: &mut [f64],
+) -> Stepped
+    ensures { λ r. ⌜ Took (called true Dogleg.dogleg n radius (now (gradient .entry)) (now (hessian .entry)) (now (step .entry)) (now (scratch .entry)))
+        r (now (step .entry)) (now (step .exit)) (now (scratch .entry)) (now (scratch .exit)) ⌝ }
+{
+    let verdict = kernel::checked(true, n, radius, gradient, hessian, step, scratch);
+    match verdict {
+        Verdict::Failed(r) => Stepped::Refused(r),
+        Verdict::Passed => {
+            let found = lay(n, radius, gradient, hessian, scratch);
+            kernel::hand_over(n, found, step, scratch)
+        }
+    }
+}

@@ -1,0 +1,130 @@
+// What the three kernels share: the checks before them, and the end of each.
+use crate::inner;
+use crate::workspace;
+use crate::workspace::Op;
+use vectors::refusal;
+use vectors::refusal::Refusal;
+use vectors::refusal::Verdict;
+ghost use mathlib.Core.Path.{_≡_};
+ghost use mathlib.Core.Bool.{_&&_};
+ghost use Prim.Native.Nat.{_+_, _*_, _≤_};
+ghost use lib.Dec.{eqb};
+ghost use lib.ListN.{length};
+ghost use Rattle.vectors.specs.Vector.{zeros, all-finite};
+ghost use Rattle.vectors.specs.Slots.{slot};
+ghost use Rattle.vectors.specs.Refusal.{size, room, judged};
+ghost use Rattle.kernels.specs.Kernel as Kernel;
+ghost use Rattle.kernels.specs.Kernel.{made, handed-out, handed-over, kernel-checks, Laid};
+
+// A step that was made in so many passes, or why there is none.
+pub enum Stepped {
+    In(u64),
+    Refused(Refusal),
+}
+
+// Finite, and above zero.
+pub(crate) fn positive(x: f64) -> bool
+    ensures { λ r. ⌜ r ≡ Kernel.positive x ⌝ }
+{
+    if !float::finite(x) {
+        return false;
+    }
+    0.0 < x
+}
+
+// Every number of a step is finite, and so is its norm.
+pub(crate) fn sound_step(v: &[f64]) -> bool
+    ensures { λ r. ⌜ r ≡ Kernel.sound-step (now (v .entry)) ⌝ }
+{
+    if !vectors::vector::all_finite(v) {
+        return false;
+    }
+    float::finite(inner::norm_unchecked(v))
+}
+
+// The lengths of a kernel's matrix, gradient, step and scratch.
+pub(crate) fn sized(n: usize, h: usize, g: usize, step: usize, scratch: usize) -> bool
+    ensures { λ r. ⌜ r ≡ (size n && eqb h (n * n) && eqb g n && eqb step n && eqb scratch (room n)) ⌝ }
+{
+    if !refusal::shaped(n, h, g, step) {
+        return false;
+    }
+    scratch == 2 * (n * n) + 8 * n
+}
+
+// The radius, and what the kernel asks of its settings beside it.
+fn settings_right(radius: f64, settings: bool) -> bool
+    ensures { λ r. ⌜ r ≡ (Kernel.positive radius && settings) ⌝ }
+{
+    if !positive(radius) {
+        return false;
+    }
+    settings
+}
+
+// The entries of the gradient and of the matrix.
+fn entries_finite(g: &[f64], h: &[f64]) -> bool
+    ensures { λ r. ⌜ r ≡ (all-finite (now (g .entry)) && all-finite (now (h .entry))) ⌝ }
+{
+    if !vectors::vector::all_finite(g) {
+        return false;
+    }
+    vectors::vector::all_finite(h)
+}
+
+// The checks before a kernel that is called directly.
+pub(crate) fn checked(
+    settings: bool,
+    n: usize,
+    radius: f64,
+    g: &[f64],
+    h: &[f64],
+    step: &[f64],
+    scratch: &[f64],
+) -> Verdict
+    ensures { λ r. ⌜ r ≡ judged (kernel-checks settings n radius (now (g .entry)) (now (h .entry)) (now (step .entry)) (now (scratch .entry))) ⌝ }
+{
+    if !sized(n, h.len(), g.len(), step.len(), scratch.len()) {
+        return Verdict::Failed(Refusal::Size);
+    }
+    if !settings_right(radius, settings) {
+        return Verdict::Failed(Refusal::Setting);
+    }
+    if !entries_finite(g, h) {
+        return Verdict::Failed(Refusal::Entry);
+    }
+    Verdict::Passed
+}
+
+// The end of every kernel: slot k is its step, unless refusal 8 is due.
+pub(crate) fn settle(n: usize, w: &mut [f64], k: usize, passes: u64) -> Stepped
+    requires { ⌜ k * n + n ≤ length (now w) ⌝ }
+    ensures { λ r. ⌜ Laid (handed-out (made passes (slot (now (w .entry)) n k))) r (now (w .entry)) (now (w .exit)) ⌝ }
+{
+    if !sound_step(workspace::part(n, w, k)) {
+        workspace::clear(w);
+        return Stepped::Refused(Refusal::Range);
+    }
+    workspace::each(n, w, 0, Op::Same, k, k);
+    workspace::clear(&mut w[n..]);
+    Stepped::In(passes)
+}
+
+// What a session's kernel laid out in w, handed to a direct caller: the step is copied, w is cleared.
+pub(crate) fn hand_over(n: usize, found: Stepped, step: &mut [f64], w: &mut [f64]) -> Stepped
+    requires { ⌜ (length (now step) ≡ n) × (n ≤ length (now w)) ⌝ }
+    ensures { λ r. ⌜ (r ≡ found) × (now (step .exit) ≡ handed-over found (slot (now (w .entry)) n 0) (now (step .entry)))
+        × (now (w .exit) ≡ zeros (length (now (w .entry)))) ⌝ }
+{
+    match found {
+        Stepped::In(passes) => {
+            workspace::put(n, step, 0, workspace::part(n, w, 0));
+            workspace::clear(w);
+            Stepped::In(passes)
+        }
+        Stepped::Refused(r) => {
+            workspace::clear(w);
+            Stepped::Refused(r)
+        }
+    }
+}

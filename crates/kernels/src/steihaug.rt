@@ -1,0 +1,366 @@
+// Steihaug: conjugate gradients as far as the radius
+// (Nocedal and Wright, Numerical Optimization, section 7.1).
+// In the scratch w, p is slot 0, r slot 1, d slot 2, H·d slot 3, q slot 4, s slot 5, and the point that
+// was chosen slot 6.
+use crate::inner;
+use crate::kernel;
+use crate::kernel::Stepped;
+use crate::workspace;
+use crate::workspace::Op;
+use vectors::refusal::Refusal;
+use vectors::refusal::Verdict;
+use vectors::vector::Number;
+ghost use mathlib.Core.Path.{_≡_};
+ghost use mathlib.Core.Bool.{_&&_};
+ghost use mathlib.Core.List.{_∷_, [], map};
+ghost use Prim.Native.Nat.{_*_, _≤_};
+ghost use lib.ListN.{length};
+ghost use Rattle.float.specs.Numbers.{finite};
+ghost use Rattle.vectors.specs.Slots.{slot};
+ghost use Rattle.vectors.specs.Refusal.{Square, Roomy};
+ghost use Rattle.vectors.specs.Calls.{tells};
+ghost use Rattle.kernels.specs.Kernel.{bounded, Laid, Took, called};
+ghost use Rattle.kernels.specs.Steihaug as Steihaug;
+ghost use Rattle.kernels.specs.Steihaug.{listed, state-in, Keeps, passed, ran};
+
+// The roots, in document 01's order.
+pub enum Roots {
+    Two(f64, f64),
+    Three(f64, f64, f64),
+}
+
+// A root, and the model at p + d·tau.
+pub struct Valued {
+    pub tau: f64,
+    pub model: f64,
+}
+
+// How a pass ended: with a point, without a usable root, or on to the next with r·r.
+pub enum Turn {
+    Stopped,
+    Refused(Refusal),
+    WentOn(f64),
+}
+
+fn both_finite(x: f64, y: f64) -> bool
+    ensures { λ r. ⌜ r ≡ (finite x && finite y) ⌝ }
+{
+    if !float::finite(x) {
+        return false;
+    }
+    float::finite(y)
+}
+
+fn roots_of(a: f64, b: f64, c: f64, delta: f64) -> Roots
+    ensures { λ r. ⌜ listed r ≡ Steihaug.roots a b c delta ⌝ }
+{
+    let t = root::root(-a * b + b * delta + c * c);
+    let first = -(t + c) / b;
+    let second = (t - c) / b;
+    if both_finite(first, second) {
+        return Roots::Two(first, second);
+    }
+    Roots::Three(first, second, (delta - a) / (2.0 * c))
+}
+
+fn roots_at(n: usize, w: &[f64], radius: f64) -> Roots
+    requires { ⌜ 8 * n ≤ length (now w) ⌝ }
+    ensures { λ r. ⌜ listed r ≡ Steihaug.roots-at radius (slot (now (w .entry)) n 0) (slot (now (w .entry)) n 2) ⌝ }
+{
+    let a = workspace::dot(n, w, 0, 0);
+    let b = workspace::dot(n, w, 2, 2);
+    let c = workspace::dot(n, w, 0, 2);
+    roots_of(a, b, c, radius * radius)
+}
+
+// The model at slot 6.
+fn model(n: usize, w: &[f64], g: &[f64], h: &[f64]) -> f64
+    requires { ⌜ Square n (length (now h)) × (length (now g) ≡ n) × (8 * n ≤ length (now w)) ⌝ }
+    ensures { λ r. ⌜ r ≡ Steihaug.model n (now (g .entry)) (now (h .entry)) (slot (now (w .entry)) n 6) ⌝ }
+{
+    let x = workspace::part(n, w, 6);
+    inner::dot_unchecked(g, x) + 0.5 * inner::weighted_unchecked(n, x, h, x)
+}
+
+fn value(n: usize, w: &mut [f64], tau: f64, g: &[f64], h: &[f64]) -> Valued
+    requires { ⌜ Square n (length (now h)) × (length (now g) ≡ n) × (8 * n ≤ length (now w)) ⌝ }
+    ensures { λ r. ⌜ (r ≡ Steihaug.valued n (now (g .entry)) (now (h .entry)) (slot (now (w .entry)) n 0) (slot (now (w .entry)) n 2) tau)
+        × Keeps n (now (w .entry)) (now (w .exit)) ⌝ }
+{
+    workspace::each(n, w, 6, Op::PlusTimes(tau), 0, 2);
+    Valued {
+        tau,
+        model: model(n, w, g, h),
+    }
+}
+
+// The one held stays on a tie.
+fn lesser(held: Valued, next: Valued) -> Valued
+    ensures { λ r. ⌜ r ≡ Steihaug.lesser held next ⌝ }
+{
+    if next.model < held.model {
+        return next;
+    }
+    held
+}
+
+fn least(a: Valued, b: Valued, c: Valued) -> Number
+    ensures { λ r. ⌜ tells r ≡ Steihaug.by-model (a ∷ b ∷ c ∷ []) ⌝ }
+{
+    if float::is_nan(a.model) {
+        return Number::Refused(Refusal::Root);
+    }
+    if float::is_nan(b.model) {
+        return Number::Refused(Refusal::Root);
+    }
+    if float::is_nan(c.model) {
+        return Number::Refused(Refusal::Root);
+    }
+    let found = lesser(lesser(a, b), c);
+    Number::Is(found.tau)
+}
+
+// Of two roots the second stands for the third as well: it can't take its own place.
+fn by_model(n: usize, w: &mut [f64], roots: Roots, g: &[f64], h: &[f64]) -> Number
+    requires { ⌜ Square n (length (now h)) × (length (now g) ≡ n) × (8 * n ≤ length (now w)) ⌝ }
+    ensures { λ r. ⌜ (tells r ≡ Steihaug.by-model (map (Steihaug.valued n (now (g .entry)) (now (h .entry)) (slot (now (w .entry)) n 0) (slot (now (w .entry)) n 2)) (listed roots)))
+        × Keeps n (now (w .entry)) (now (w .exit)) ⌝ }
+{
+    match roots {
+        Roots::Two(first, second) => {
+            let a = value(n, w, first, g, h);
+            let b = value(n, w, second, g, h);
+            least(a, b, b)
+        }
+        Roots::Three(first, second, third) => {
+            let a = value(n, w, first, g, h);
+            let b = value(n, w, second, g, h);
+            let c = value(n, w, third, g, h);
+            least(a, b, c)
+        }
+    }
+}
+
+// The one held stays on a tie.
+fn larger(held: Number, t: f64) -> Number
+    ensures { λ r. ⌜ tells r ≡ Steihaug.larger (tells held) t ⌝ }
+{
+    match held {
+        Number::Is(x) => {
+            if x < t {
+                return Number::Is(t);
+            }
+            Number::Is(x)
+        }
+        Number::Refused(r) => {
+            if 0.0 <= t {
+                return Number::Is(t);
+            }
+            Number::Refused(r)
+        }
+    }
+}
+
+fn forward(roots: Roots) -> Number
+    ensures { λ r. ⌜ tells r ≡ Steihaug.forward (listed roots) ⌝ }
+{
+    let none = Number::Refused(Refusal::Root);
+    match roots {
+        Roots::Two(first, second) => larger(larger(none, first), second),
+        Roots::Three(first, second, third) => larger(larger(larger(none, first), second), third),
+    }
+}
+
+// p + d·tau, into slot 6.
+fn stop_at(n: usize, w: &mut [f64], tau: Number) -> Turn
+    requires { ⌜ 8 * n ≤ length (now w) ⌝ }
+    ensures { λ r. ⌜ passed r n (now (w .exit)) ≡ Steihaug.stops-at n (slot (now (w .entry)) n 0) (slot (now (w .entry)) n 2) (tells tau) ⌝ }
+{
+    match tau {
+        Number::Is(t) => {
+            workspace::each(n, w, 6, Op::PlusTimes(t), 0, 2);
+            Turn::Stopped
+        }
+        Number::Refused(r) => Turn::Refused(r),
+    }
+}
+
+// No curvature, or a negative one, along d.
+fn curved(n: usize, w: &mut [f64], radius: f64, g: &[f64], h: &[f64]) -> Turn
+    requires { ⌜ Square n (length (now h)) × (length (now g) ≡ n) × (8 * n ≤ length (now w)) ⌝ }
+    ensures { λ r. ⌜ passed r n (now (w .exit)) ≡ Steihaug.curved n radius (now (g .entry)) (now (h .entry)) (slot (now (w .entry)) n 0) (slot (now (w .entry)) n 2) ⌝ }
+{
+    let roots = roots_at(n, w, radius);
+    let tau = by_model(n, w, roots, g, h);
+    stop_at(n, w, tau)
+}
+
+// The next point is outside of the radius.
+fn crossing(n: usize, w: &mut [f64], radius: f64) -> Turn
+    requires { ⌜ 8 * n ≤ length (now w) ⌝ }
+    ensures { λ r. ⌜ passed r n (now (w .exit)) ≡ Steihaug.crossing n radius (slot (now (w .entry)) n 0) (slot (now (w .entry)) n 2) ⌝ }
+{
+    let roots = roots_at(n, w, radius);
+    let tau = forward(roots);
+    stop_at(n, w, tau)
+}
+
+// On to the next pass, from q and s.
+fn onward(n: usize, w: &mut [f64], rtr: f64) -> Turn
+    requires { ⌜ 8 * n ≤ length (now w) ⌝ }
+    ensures { λ r. ⌜ passed r n (now (w .exit))
+        ≡ Steihaug.goes-on (Steihaug.onward n (state-in (now (w .entry)) n rtr) (slot (now (w .entry)) n 4) (slot (now (w .entry)) n 5)) ⌝ }
+{
+    let ss = workspace::dot(n, w, 5, 5);
+    let beta = ss / rtr;
+    workspace::each(n, w, 7, Op::Times(-1.0), 5, 5);
+    workspace::each(n, w, 2, Op::PlusTimes(beta), 7, 2);
+    workspace::each(n, w, 0, Op::Same, 4, 4);
+    workspace::each(n, w, 1, Op::Same, 5, 5);
+    Turn::WentOn(ss)
+}
+
+// Past the first test: H·d is in slot 3.
+fn straight(n: usize, w: &mut [f64], radius: f64, small: f64, rtr: f64, alpha: f64) -> Turn
+    requires { ⌜ 8 * n ≤ length (now w) ⌝ }
+    ensures { λ r. ⌜ passed r n (now (w .exit)) ≡ Steihaug.straight n radius small (state-in (now (w .entry)) n rtr) (slot (now (w .entry)) n 3) alpha ⌝ }
+{
+    workspace::each(n, w, 4, Op::PlusTimes(alpha), 0, 2);
+    // equality is already outside
+    if workspace::norm(n, w, 4) >= radius {
+        return crossing(n, w, radius);
+    }
+    workspace::each(n, w, 5, Op::PlusTimes(alpha), 1, 3);
+    if workspace::norm(n, w, 5) < small {
+        workspace::each(n, w, 6, Op::Same, 4, 4);
+        return Turn::Stopped;
+    }
+    onward(n, w, rtr)
+}
+
+// `small` is epsilon·‖g‖.
+fn pass(n: usize, w: &mut [f64], radius: f64, small: f64, rtr: f64, g: &[f64], h: &[f64]) -> Turn
+    requires { ⌜ Square n (length (now h)) × (length (now g) ≡ n) × (8 * n ≤ length (now w)) ⌝ }
+    ensures { λ r. ⌜ passed r n (now (w .exit)) ≡ Steihaug.pass n radius small (now (g .entry)) (now (h .entry)) (state-in (now (w .entry)) n rtr) ⌝ }
+{
+    workspace::times(n, w, 3, h, 2);
+    let dhd = workspace::dot(n, w, 2, 3);
+    if dhd <= 0.0 {
+        return curved(n, w, radius, g, h);
+    }
+    straight(n, w, radius, small, rtr, rtr / dhd)
+}
+
+// The passes, as many as begin, from what `start` left in w.
+fn run(
+    n: usize,
+    w: &mut [f64],
+    radius: f64,
+    small: f64,
+    first: f64,
+    limit: u64,
+    g: &[f64],
+    h: &[f64],
+) -> Stepped
+    requires { ⌜ Square n (length (now h)) × (length (now g) ≡ n) × (8 * n ≤ length (now w)) ⌝ }
+    ensures { λ r. ⌜ ran r n (now (w .exit)) ≡ Steihaug.run n radius small (now (g .entry)) (now (h .entry)) limit 0 (state-in (now (w .entry)) n first) ⌝ }
+{
+    let mut rtr = first;
+    let mut passes = 0;
+    let end = loop {
+        if passes >= limit {
+            workspace::each(n, w, 6, Op::Same, 0, 0);
+            break Stepped::In(passes);
+        }
+        let turn = pass(n, w, radius, small, rtr, g, h);
+        passes += 1;
+        match turn {
+            Turn::Stopped => break Stepped::In(passes),
+            Turn::Refused(r) => break Stepped::Refused(r),
+            Turn::WentOn(next) => {
+                rtr = next;
+            }
+        }
+    };
+    end
+}
+
+// p = 0, r = g, d = r·(−1); r·r is returned.
+fn start(n: usize, w: &mut [f64], g: &[f64]) -> f64
+    requires { ⌜ (length (now g) ≡ n) × (8 * n ≤ length (now w)) ⌝ }
+    ensures { λ r. ⌜ state-in (now (w .exit)) n r ≡ Steihaug.start n (now (g .entry)) ⌝ }
+{
+    workspace::clear(&mut w[..n]);
+    workspace::put(n, w, 1, g);
+    workspace::each(n, w, 2, Op::Times(-1.0), 1, 1);
+    inner::dot_unchecked(g, g)
+}
+
+// The kernel for a session, which has made its own checks.
+pub(crate) fn lay(
+    n: usize,
+    radius: f64,
+    epsilon: f64,
+    limit: u64,
+    g: &[f64],
+    h: &[f64],
+    w: &mut [f64],
+) -> Stepped
+    requires { ⌜ Square n (length (now h)) × (length (now g) ≡ n) × Roomy n (length (now w)) ⌝ }
+    ensures { λ r. ⌜ Laid (Steihaug.steihaug epsilon limit n radius (now (g .entry)) (now (h .entry))) r (now (w .entry)) (now (w .exit)) ⌝ }
+{
+    let norm = inner::norm_unchecked(g);
+    let rtr = start(n, w, g);
+    if norm < epsilon {
+        return kernel::settle(n, w, 0, 0);
+    }
+    let end = run(n, w, radius, epsilon * norm, rtr, limit, g, h);
+    match end {
+        Stepped::In(passes) => kernel::settle(n, w, 6, passes),
+        Stepped::Refused(r) => {
+            workspace::clear(w);
+            Stepped::Refused(r)
+        }
+    }
+}
+
+// What Steihaug asks of its settings beside the radius.
+fn sound(epsilon: f64, limit: u64) -> bool
+    ensures { λ r. ⌜ r ≡ bounded epsilon limit ⌝ }
+{
+    if !kernel::positive(epsilon) {
+        return false;
+    }
+    limit <= 10000
+}
+
+pub fn steihaug(
+    n: usize,
+    radius: f64,
+    epsilon: f64,
+    limit: u64,
+    gradient: &[f64],
+    hessian: &[f64],
+    step: &mut [f64],
+    scratch: &mut [f64],
+) -> Stepped
+    ensures { λ r. ⌜ Took (called (bounded epsilon limit) (Steihaug.steihaug epsilon limit) n radius (now (gradient .entry)) (now (hessian .entry)) (now (step .entry)) (now (scratch .entry)))
+        r (now (step .entry)) (now (step .exit)) (now (scratch .entry)) (now (scratch .exit)) ⌝ }
+{
+    let verdict = kernel::checked(
+        sound(epsilon, limit),
+        n,
+        radius,
+        gradient,
+        hessian,
+        step,
+        scratch,
+    );
+    match verdict {
+        Verdict::Failed(r) => Stepped::Refused(r),
+        Verdict::Passed => {
+            let found = lay(n, radius, epsilon, limit, gradient, hessian, scratch);
+            kernel::hand_over(n, found, step, scratch)
+        }
+    }
+}

@@ -1,0 +1,4 @@
+pub mod Vectors
+pub mod Slots
+pub mod Sizes
+pub mod Ends

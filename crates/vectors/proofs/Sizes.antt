@@ -1,0 +1,76 @@
+-- Laws of tests and sizes. Assumes nothing.
+use mathlib.Core.Path.{_≡_, refl, sym, _∙_}
+use mathlib.Core.Bool.{Bool, true, false, not, _&&_}
+use mathlib.Core.List.{List}
+use Prim.Native.Nat.{ℕ, _+_, _*_, _<_, _≤_}
+use native.Mathlib.Nat.{mul-le-mul-right}
+use native.Mathlib.Omega.{arith}
+use lib.Dec.{eqb, leb}
+use lib.ListN.{length}
+use lib.Ieee.{Float}
+use borrow.Author.Tests.{not-true, not-false, eqb-true, leb-true, le-leb, lt-ltb, eq-eqb}
+use Rattle.vectors.specs.Vector.{row}
+use Rattle.vectors.specs.Refusal.{size, Square}
+use Rattle.vectors.specs.Calls.{row-part}
+use Rattle.vectors.proofs.Slots.{before, length-slot}
+
+-- a test t that the code has in a flag r, in the arms of `if !r`
+pub failed : {r t : Bool} → r ≡ t → not r ≡ true → t ≡ false
+failed {r} e h = sym e ∙ not-true r h
+
+pub passed : {r t : Bool} → r ≡ t → not r ≡ false → t ≡ true
+passed {r} e h = sym e ∙ not-false r h
+
+pub both : (a b : Bool) → (a && b) ≡ true → (a ≡ true) × (b ≡ true)
+both true b e = (refl, e)
+both false b e = (e, cc)
+
+-- ---- n·n is small, and rows lie within it
+
+pub square-small : (n : ℕ) → n ≤ 64 → n * n ≤ 4096
+square-small n h = omega (arith, mul-le-mul-right n h)
+
+pub row-inside : (n i : ℕ) → i < n → i * n + n ≤ n * n
+row-inside n i h = before n i n h
+
+-- ---- the tests as facts
+
+pub size-true : (n : ℕ) → size n ≡ true → (1 ≤ n) × (n ≤ 64)
+unfolding size
+size-true n e = let b = both (leb 1 n) (leb n 64) e in (leb-true 1 n (b .0), leb-true n 64 (b .1))
+
+pub square-true : (n len : ℕ) → (size n && eqb len (n * n)) ≡ true → Square n len
+square-true n len e =
+    let b = both (size n) (eqb len (n * n)) e in
+    let s = size-true n (b .0) in
+    record { low = s .0; high = s .1; long = eqb-true len (n * n) (b .1) }
+
+pub square-test : {n len : ℕ} → Square n len → (size n && eqb len (n * n)) ≡ true
+unfolding size
+square-test {n} {len} s = simp (le-leb 1 n (s .low), le-leb n 64 (s .high), eq-eqb len (n * n) (s .long))
+
+pub vectors-true : (n a b : ℕ) → (size n && eqb a n && eqb b n) ≡ true → (a ≡ n) × (b ≡ n)
+vectors-true n a b e =
+    let p = both (size n && eqb a n) (eqb b n) e in
+    (eqb-true a n (both (size n) (eqb a n) (p .0) .1), eqb-true b n (p .1))
+
+-- a matrix and two vectors
+pub record Shaped (n h a b : ℕ) : Type 0 where
+  pub square : Square n h
+  pub first : a ≡ n
+  pub second : b ≡ n
+
+pub shaped-true : (n h a b : ℕ) → (size n && eqb h (n * n) && eqb a n && eqb b n) ≡ true → Shaped n h a b
+shaped-true n h a b e =
+    let p = both (size n && eqb h (n * n) && eqb a n) (eqb b n) e in
+    let q = both (size n && eqb h (n * n)) (eqb a n) (p .0) in
+    record { square = square-true n h (q .0); first = eqb-true a n (q .1); second = eqb-true b n (p .1) }
+
+-- ---- rows
+
+module _ (n : ℕ) (H : List Float) (i : ℕ) (s : Square n (length H)) (l : i < n) where
+  pub row-good : row-part n H i ≡ row n H i
+  row-good = simp (square-test s, lt-ltb i n l)
+
+  pub length-row : length (row n H i) ≡ n
+  length-row = length-slot H n i (omega (arith, row-inside n i l, s .long))

@@ -1,0 +1,4 @@
+pub mod Slots
+pub mod Vector
+pub mod Refusal
+pub mod Calls
