@@ -13,7 +13,7 @@ use stream::Word;
 use vectors::refusal::Outcome;
 
 // 1 root x
-pub(crate) fn root(room: &mut [u8], page: &mut [u8], input: Input, output: Output) -> Step {
+pub fn root(room: &mut [u8], page: &mut [u8], input: Input, output: Output) -> Step {
     let number = stream::next_number(room, input);
     let Number::Is(x, next) = number else {
         return lines::bad(page, output);
@@ -22,7 +22,7 @@ pub(crate) fn root(room: &mut [u8], page: &mut [u8], input: Input, output: Outpu
 }
 
 // 2 ratio f F m0 m
-pub(crate) fn ratio(room: &mut [u8], page: &mut [u8], input: Input, output: Output) -> Step {
+pub fn ratio(room: &mut [u8], page: &mut [u8], input: Input, output: Output) -> Step {
     let mut v = [0.0; 4];
     let filled = stream::numbers(room, input, &mut v, 4);
     let Filled::To(next) = filled else {
@@ -33,7 +33,7 @@ pub(crate) fn ratio(room: &mut [u8], page: &mut [u8], input: Input, output: Outp
 }
 
 // 3 dot n [a] [b]
-pub(crate) fn dot(
+pub fn dot(
     room: &mut [u8],
     page: &mut [u8],
     a: &mut [f64],
@@ -50,13 +50,7 @@ pub(crate) fn dot(
 }
 
 // 4 norm n [a]
-pub(crate) fn norm(
-    room: &mut [u8],
-    page: &mut [u8],
-    a: &mut [f64],
-    input: Input,
-    output: Output,
-) -> Step {
+pub fn norm(room: &mut [u8], page: &mut [u8], a: &mut [f64], input: Input, output: Output) -> Step {
     let read = lists::read_one(room, input, a);
     let One::Is(n, k, next) = read else {
         return lines::bad(page, output);
@@ -66,7 +60,7 @@ pub(crate) fn norm(
 }
 
 // 5 weighted dot n [a] [H] [b]
-pub(crate) fn weighted_dot(
+pub fn weighted_dot(
     room: &mut [u8],
     page: &mut [u8],
     a: &mut [f64],
@@ -89,7 +83,7 @@ pub(crate) fn weighted_dot(
 }
 
 // 6 product n [H] [d], and the length of the lent output
-pub(crate) fn product(
+pub fn product(
     room: &mut [u8],
     page: &mut [u8],
     h: &mut [f64],
@@ -119,7 +113,7 @@ fn product_into(n: usize, h: &[f64], d: &[f64], out: &mut [f64], k: usize) -> Ou
 }
 
 // 7 inverse n [H], and the lengths of the lent output and scratch
-pub(crate) fn inverse(
+pub fn inverse(
     room: &mut [u8],
     page: &mut [u8],
     h: &mut [f64],
@@ -160,13 +154,7 @@ fn inverse_into(
 }
 
 // 8 row n [H] i
-pub(crate) fn row(
-    room: &mut [u8],
-    page: &mut [u8],
-    h: &mut [f64],
-    input: Input,
-    output: Output,
-) -> Step {
+pub fn row(room: &mut [u8], page: &mut [u8], h: &mut [f64], input: Input, output: Output) -> Step {
     let read = lists::read_one(room, input, h);
     let One::Is(n, k, place) = read else {
         return lines::bad(page, output);

@@ -12,14 +12,14 @@ pub(crate) enum Step {
 }
 
 // `is` and one number.
-pub(crate) fn number(page: &mut [u8], output: Output, x: f64) -> Output {
+pub fn number(page: &mut [u8], output: Output, x: f64) -> Output {
     let said = stream::put_text(page, output, b"is ");
     let put = stream::put_number(page, said, x);
     stream::put_line_end(page, put)
 }
 
 // `is` and the numbers of a list, which may be none.
-pub(crate) fn numbers(page: &mut [u8], output: Output, v: &[f64]) -> Output {
+pub fn numbers(page: &mut [u8], output: Output, v: &[f64]) -> Output {
     let mut put = stream::put_text(page, output, b"is");
     let mut i = 0;
     while i < v.len() {
@@ -31,13 +31,13 @@ pub(crate) fn numbers(page: &mut [u8], output: Output, v: &[f64]) -> Output {
 }
 
 // `refused` and the refusal's number.
-pub(crate) fn refused(page: &mut [u8], output: Output, r: Refusal) -> Output {
+pub fn refused(page: &mut [u8], output: Output, r: Refusal) -> Output {
     let said = stream::put_text(page, output, b"refused ");
     let put = stream::put_whole(page, said, vectors::refusal::number(r));
     stream::put_line_end(page, put)
 }
 
-pub(crate) fn answer(page: &mut [u8], output: Output, found: Number) -> Output {
+pub fn answer(page: &mut [u8], output: Output, found: Number) -> Output {
     match found {
         Number::Is(x) => number(page, output, x),
         Number::Refused(r) => refused(page, output, r),
@@ -45,19 +45,19 @@ pub(crate) fn answer(page: &mut [u8], output: Output, found: Number) -> Output {
 }
 
 // What a call wrote to `out`, or why it did not.
-pub(crate) fn outcome(page: &mut [u8], output: Output, found: Outcome, out: &[f64]) -> Output {
+pub fn outcome(page: &mut [u8], output: Output, found: Outcome, out: &[f64]) -> Output {
     match found {
         Outcome::Written => numbers(page, output, out),
         Outcome::Refused(r) => refused(page, output, r),
     }
 }
 
-pub(crate) fn bad(page: &mut [u8], output: Output) -> Step {
+pub fn bad(page: &mut [u8], output: Output) -> Step {
     let said = stream::put_text(page, output, b"bad input\n");
     stop(page, said)
 }
 
-pub(crate) fn stop(page: &[u8], output: Output) -> Step {
+pub fn stop(page: &[u8], output: Output) -> Step {
     stream::flush(page, output);
     Step::Stop
 }

@@ -29,7 +29,7 @@ pub(crate) enum Three {
 }
 
 // Reads a length. One above `most` is bad input.
-pub(crate) fn length(room: &mut [u8], input: Input, most: u64) -> Lent {
+pub fn length(room: &mut [u8], input: Input, most: u64) -> Lent {
     let word = stream::next_word(room, input);
     let Word::Is(count, next) = word else {
         return Lent::Bad;
@@ -54,7 +54,7 @@ fn list(room: &mut [u8], input: Input, slot: &mut [f64]) -> Lent {
 }
 
 // Reads n and a list.
-pub(crate) fn read_one(room: &mut [u8], input: Input, a: &mut [f64]) -> One {
+pub fn read_one(room: &mut [u8], input: Input, a: &mut [f64]) -> One {
     let size = stream::next_word(room, input);
     let Word::Is(n, next) = size else {
         return One::Bad;
@@ -67,7 +67,7 @@ pub(crate) fn read_one(room: &mut [u8], input: Input, a: &mut [f64]) -> One {
 }
 
 // Reads n and two lists.
-pub(crate) fn read_two(room: &mut [u8], input: Input, a: &mut [f64], b: &mut [f64]) -> Two {
+pub fn read_two(room: &mut [u8], input: Input, a: &mut [f64], b: &mut [f64]) -> Two {
     let first = read_one(room, input, a);
     let One::Is(n, k, next) = first else {
         return Two::Bad;
@@ -80,7 +80,7 @@ pub(crate) fn read_two(room: &mut [u8], input: Input, a: &mut [f64], b: &mut [f6
 }
 
 // Reads n and three lists.
-pub(crate) fn read_three(
+pub fn read_three(
     room: &mut [u8],
     input: Input,
     a: &mut [f64],
@@ -99,12 +99,7 @@ pub(crate) fn read_three(
 }
 
 // Reads n, two lists, and the length of an output.
-pub(crate) fn read_two_and_length(
-    room: &mut [u8],
-    input: Input,
-    a: &mut [f64],
-    b: &mut [f64],
-) -> Three {
+pub fn read_two_and_length(room: &mut [u8], input: Input, a: &mut [f64], b: &mut [f64]) -> Three {
     let read = read_two(room, input, a, b);
     let Two::Are(n, k, l, next) = read else {
         return Three::Bad;
@@ -117,7 +112,7 @@ pub(crate) fn read_two_and_length(
 }
 
 // Reads n, a list, and the lengths of an output and a scratch.
-pub(crate) fn read_one_and_lengths(room: &mut [u8], input: Input, a: &mut [f64]) -> Three {
+pub fn read_one_and_lengths(room: &mut [u8], input: Input, a: &mut [f64]) -> Three {
     let read = read_one(room, input, a);
     let One::Is(n, k, next) = read else {
         return Three::Bad;
@@ -134,7 +129,7 @@ pub(crate) fn read_one_and_lengths(room: &mut [u8], input: Input, a: &mut [f64])
 }
 
 // The first n numbers of v, which has them wherever n was read by one of the above.
-pub(crate) fn first(v: &[f64], n: usize) -> &[f64] {
+pub fn first(v: &[f64], n: usize) -> &[f64] {
     if n <= v.len() {
         return &v[0..n];
     }
@@ -142,7 +137,7 @@ pub(crate) fn first(v: &[f64], n: usize) -> &[f64] {
 }
 
 // +0 throughout.
-pub(crate) fn blank(v: &mut [f64]) {
+pub fn blank(v: &mut [f64]) {
     let mut i = 0;
     while i < v.len() {
         v[i] = 0.0;

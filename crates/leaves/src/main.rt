@@ -11,31 +11,6 @@ use stream::Input;
 use stream::Output;
 use stream::Word;
 
-fn call(
-    room: &mut [u8],
-    page: &mut [u8],
-    a: &mut [f64],
-    b: &mut [f64],
-    c: &mut [f64],
-    out: &mut [f64],
-    scratch: &mut [f64],
-    input: Input,
-    output: Output,
-    number: u64,
-) -> Step {
-    match number {
-        1 => calls::root(room, page, input, output),
-        2 => calls::ratio(room, page, input, output),
-        3 => calls::dot(room, page, a, b, input, output),
-        4 => calls::norm(room, page, a, input, output),
-        5 => calls::weighted_dot(room, page, a, b, c, input, output),
-        6 => calls::product(room, page, a, b, out, input, output),
-        7 => calls::inverse(room, page, a, out, scratch, input, output),
-        8 => calls::row(room, page, a, input, output),
-        _ => lines::bad(page, output),
-    }
-}
-
 fn next_call(
     room: &mut [u8],
     page: &mut [u8],
@@ -49,7 +24,17 @@ fn next_call(
 ) -> Step {
     let word = stream::next_word(room, input);
     match word {
-        Word::Is(number, next) => call(room, page, a, b, c, out, scratch, next, output, number),
+        Word::Is(number, next) => match number {
+            1 => calls::root(room, page, next, output),
+            2 => calls::ratio(room, page, next, output),
+            3 => calls::dot(room, page, a, b, next, output),
+            4 => calls::norm(room, page, a, next, output),
+            5 => calls::weighted_dot(room, page, a, b, c, next, output),
+            6 => calls::product(room, page, a, b, out, next, output),
+            7 => calls::inverse(room, page, a, out, scratch, next, output),
+            8 => calls::row(room, page, a, next, output),
+            _ => lines::bad(page, output),
+        },
         Word::End => lines::stop(page, output),
         Word::Short => lines::bad(page, output),
     }
