@@ -1,0 +1,135 @@
+-- How a step is offered, over the values. Assumes nothing.
+use mathlib.Core.Path.{_≡_, refl, sym, _∙_, ap}
+use mathlib.Core.Bool.{Bool, true, false, cond, not, _&&_}
+use mathlib.Core.List.{List, _++_}
+use Prim.Native.Nat.{ℕ, _+_, _*_, _-_, _≤_}
+use native.Mathlib.Omega.{arith}
+use lib.ListN.{length, take, drop}
+use lib.Seq.{take-at}
+use lib.Ieee.{Float}
+use borrow.Author.Tests.{eq-eqb}
+use Rattle.vectors.specs.Vector.{plus, zeros, all-finite}
+use Rattle.vectors.specs.Slots.{slot, Puts}
+use Rattle.vectors.specs.Refusal.{Answer, refused, given, then, size, sized, room, scratch-after}
+use Rattle.kernels.specs.Kernel.{Made, made, Proper, Laid}
+use Rattle.kernels.specs.Choice.{kernel, door}
+use Rattle.vectors.specs.declared.refusal.Refusal.{Refusal}
+use Rattle.vectors.specs.declared.refusal.Refusal.the-variants.{Size, Setting, Range}
+use Rattle.kernels.specs.declared.kernel.Stepped.{Stepped}
+use Rattle.kernels.specs.declared.kernel.Stepped.the-variants as stepped
+use Rattle.vectors.proofs.Slots.{length-slot}
+use Rattle.vectors.proofs.Sizes.{square-test}
+use Rattle.kernels.proofs.Choices.{kernel-proper}
+use Rattle.offer.specs.Offer.{all-sized, offered, offer}
+use Rattle.offer.specs.Calls.{known, replaced, offering, measured, Offers}
+use Rattle.offer.specs.declared.Offered.{Offered}
+use Rattle.offer.specs.declared.Offered.the-variants.{Refused}
+use Rattle.offer.proofs.Lengths.{lent-true, copied}
+
+-- ---- a step that was laid out
+
+-- a step of n numbers and the trial behind it, as parts of the scratch
+module _ (n : ℕ) (w : List Float) where
+  pub first-part : take (n - 0) (drop 0 w) ≡ slot w n 0
+  unfolding slot
+  first-part =
+      let none : 0 * n ≡ 0 = omega arith in
+      let long : n - 0 ≡ n = omega arith in
+      rw (none, long)
+
+  pub second-part : take (n + n - n) (drop n w) ≡ slot w n 1
+  unfolding slot
+  second-part =
+      let one : 1 * n ≡ n = omega arith in
+      let long : n + n - n ≡ n = omega arith in
+      rw (one, long)
+
+-- the trial was laid beside it
+module _ (n passes : ℕ) (point g H step trial w w₁ : List Float) (laid : Puts w n 1 (plus n (slot w n 0) point) w₁) (l : length w₁ ≡ length w) where
+  module _ (u w′ : List Float) (is : u ≡ slot w₁ n 1) (z : w′ ≡ zeros (length w₁)) where
+    pub refuses : all-finite u ≡ false → Offers n g H (offer n point (made passes (slot w n 0))) (Refused Range) step trial w step trial w′
+    unfolding offer
+    refuses t =
+        let bad : all-finite (plus n (slot w n 0) point) ≡ false = sym (ap all-finite (is ∙ laid 1)) ∙ t in
+        rw bad (record { says = refl; leaves-step = refl; leaves-trial = refl; leaves-scratch = z ∙ ap zeros l })
+
+    pub hands-out : (v₀ v₁ step′ trial′ : List Float) (r : Offered) → all-finite u ≡ true → v₀ ≡ slot w₁ n 0 → v₁ ≡ slot w₁ n 1 → n + n ≤ length w → length step ≡ n → length trial ≡ n
+        → step′ ≡ replaced v₀ step → trial′ ≡ replaced v₁ trial → r ≡ measured n g H passes step′
+        → Offers n g H (offer n point (made passes (slot w n 0))) r step trial w step′ trial′ w′
+    unfolding offer
+    hands-out v₀ v₁ step′ trial′ r t first second room at-step at-trial a b says =
+        let good : all-finite (plus n (slot w n 0) point) ≡ true = sym (ap all-finite (is ∙ laid 1)) ∙ t in
+        let long₀ : length v₀ ≡ n = ap length first ∙ length-slot w₁ n 0 (omega arith) in
+        let long₁ : length v₁ ≡ n = ap length second ∙ length-slot w₁ n 1 (omega arith) in
+        let stepped : step′ ≡ slot w n 0 = a ∙ copied v₀ step (at-step ∙ sym long₀) ∙ first ∙ laid 0 in
+        rw good (record {
+          says = says ∙ ap (measured n g H passes) stepped;
+          leaves-step = stepped;
+          leaves-trial = b ∙ copied v₁ trial (at-trial ∙ sym long₁) ∙ second ∙ laid 1;
+          leaves-scratch = z ∙ ap zeros l;
+        })
+
+-- ---- the whole call
+
+slot-laid : (v u : List Float) (n : ℕ) → length v ≡ n → slot (v ++ u) n 0 ≡ v
+unfolding slot
+slot-laid v u n e = let none : 0 * n ≡ 0 = omega arith in rw none (take-at v u n e)
+
+-- only the scratch's length counts
+scratch-same : (n : ℕ) (point : List Float) (m : Made) (w₁ w : List Float) → length w₁ ≡ length w → scratch-after (offer n point m) w₁ ≡ scratch-after (offer n point m) w
+unfolding offer
+scratch-same n point m w₁ w l = pick (not (all-finite (plus n (m .step) point))) where
+  pick : (b : Bool) → scratch-after (cond b (refused Range) (given (offered n point m))) w₁ ≡ scratch-after (cond b (refused Range) (given (offered n point m))) w
+  pick true = ap zeros l
+  pick false = ap zeros l
+
+given-long : (n : ℕ) (b c : Bool) (a : Answer Made) (m : Made) → Proper n a → cond b (refused Size) (cond c (refused Setting) a) ≡ given m → length (m .step) ≡ n
+given-long n true c a m p e = absurd (let z : _≡_ {A = ℕ} 0 1 = cc in omega arith)
+given-long n false true a m p e = absurd (let z : _≡_ {A = ℕ} 0 1 = cc in omega arith)
+given-long n false false (refused r) m p e = absurd (let z : _≡_ {A = ℕ} 0 1 = cc in omega arith)
+given-long n false false (given x) m p e = let same : m ≡ x = cc in rw same p
+
+module _ (choice : ℕ) (epsilon : Float) (limit n : ℕ) (radius : Float) (point g H step trial w : List Float) where
+  door-long : (m : Made) → door choice epsilon limit n radius g H w ≡ given m → length (m .step) ≡ n
+  unfolding door
+  door-long m e =
+      given-long n (not (size n && sized (n * n) H && sized n g && sized (room n) w)) (not (known choice))
+      (kernel choice epsilon limit n radius g H) m (kernel-proper choice epsilon limit n radius g H) e
+
+  pub no-size : all-sized n point g H step trial w ≡ false
+      → Offers n g H (offering choice epsilon limit n radius point g H step trial w) (Refused Size) step trial w step trial w
+  unfolding offering
+  no-size e = rw e (record { says = refl; leaves-step = refl; leaves-trial = refl; leaves-scratch = refl })
+
+  module _ (e : all-sized n point g H step trial w ≡ true) where
+    opens : offering choice epsilon limit n radius point g H step trial w ≡ then (offer n point) (door choice epsilon limit n radius g H w)
+    unfolding offering
+    opens = rw e
+
+    -- by the kernel of the number itself, which a session's definitions speak of
+    pub offers-kernel : known choice ≡ true
+        → offering choice epsilon limit n radius point g H step trial w ≡ then (offer n point) (kernel choice epsilon limit n radius g H)
+    unfolding door
+    offers-kernel k =
+        let l = lent-true n (length point) (length g) (length H) (length step) (length trial) (length w) e in
+        opens ∙ rw (square-test (l .square), eq-eqb (length g) n (l .gradient), eq-eqb (length w) (room n) (l .scratch), k)
+
+    module _ (found : Stepped) (w₁ : List Float) (laid : Laid (door choice epsilon limit n radius g H w) found w w₁) where
+      pub no-step : (r : Refusal) → found ≡ stepped.Refused r
+          → Offers n g H (offering choice epsilon limit n radius point g H step trial w) (Refused r) step trial w step trial w₁
+      no-step r f = rw opens (go (door choice epsilon limit n radius g H w) laid) where
+        go : (a : Answer Made) → Laid a found w w₁ → Offers n g H (then (offer n point) a) (Refused r) step trial w step trial w₁
+        go (refused x) h = let same : r ≡ x = (let both : stepped.Refused r ≡ stepped.Refused x = sym f ∙ h .says in cc) in record { says = ap Refused same; leaves-step = refl; leaves-trial = refl; leaves-scratch = h .lays }
+        go (given m) h = absurd (let both : stepped.Refused r ≡ stepped.In (m .passes) = sym f ∙ h .says in let z : _≡_ {A = ℕ} 0 1 = cc in omega arith)
+
+      pub step-made : (passes : ℕ) (r : Offered) (step′ trial′ w′ : List Float) → found ≡ stepped.In passes → length w₁ ≡ length w
+          → Offers n g H (offer n point (made passes (slot w₁ n 0))) r step trial w₁ step′ trial′ w′
+          → Offers n g H (offering choice epsilon limit n radius point g H step trial w) r step trial w step′ trial′ w′
+      step-made passes r step′ trial′ w′ f l o = rw opens (go (door choice epsilon limit n radius g H w) laid door-long) where
+        go : (a : Answer Made) → Laid a found w w₁ → ((m : Made) → a ≡ given m → length (m .step) ≡ n) → Offers n g H (then (offer n point) a) r step trial w step′ trial′ w′
+        go (refused x) h long = absurd (let both : stepped.In passes ≡ stepped.Refused x = sym f ∙ h .says in let z : _≡_ {A = ℕ} 0 1 = cc in omega arith)
+        go (given m) h long =
+            let count : passes ≡ m .passes = (let both : stepped.In passes ≡ stepped.In (m .passes) = sym f ∙ h .says in cc) in
+            let first : slot w₁ n 0 ≡ m .step = ap (λ (v : List Float). slot v n 0) (h .lays) ∙ slot-laid (m .step) _ n (long m refl) in
+            let o′ : Offers n g H (offer n point m) r step trial w₁ step′ trial′ w′ = rw (count, first) at o in
+            record { says = o′ .says; leaves-step = o′ .leaves-step; leaves-trial = o′ .leaves-trial; leaves-scratch = o′ .leaves-scratch ∙ scratch-same n point m w₁ w l }

@@ -1,0 +1,65 @@
+-- What the calls of this crate give and leave, for every input, refused ones too. Definitions only.
+use mathlib.Core.Path.{_≡_}
+use mathlib.Core.Bool.{Bool, cond, not, _&&_}
+use mathlib.Core.List.{List, [], _∷_}
+use Prim.Native.Nat.{ℕ}
+use lib.Dec.{eqb, leb}
+use lib.ListN.{length}
+use lib.Ieee.{Float}
+use Rattle.float.specs.Constants.{nought}
+use Rattle.vectors.specs.Vector.{dot, weighted, norm}
+use Rattle.vectors.specs.Refusal.{Answer, refused, given, Check, _if_, unless, then, size, left-in, scratch-after}
+use Rattle.kernels.specs.Choice.{door}
+use Rattle.vectors.specs.declared.refusal.Refusal.the-variants.{Size, Setting, Turn, Entry, Radius}
+use Rattle.vectors.specs.declared.vector.Number.{Number}
+use Rattle.vectors.specs.declared.vector.Number.the-variants.{Is, Refused}
+use Rattle.offer.specs.Offer.{all-sized, Offer, offer}
+use Rattle.offer.specs.declared.Offered.{Offered}
+use Rattle.offer.specs.declared.Offered.the-variants as offered
+
+-- "Kernel 1 to 3 (Cauchy, Dogleg, Steihaug)"
+abbrev pub known : (kernel : ℕ) → Bool
+known kernel = leb 1 kernel && leb kernel 3
+
+-- refusals 1 to 5, by what each of them asks
+abbrev pub early-checks : (sized sound in-turn finite zero-radius : Bool) → List Check
+early-checks sized sound in-turn finite zero-radius =
+    (Size if not sized)
+    ∷ (Setting if not sound)
+    ∷ (Turn if not in-turn)
+    ∷ (Entry if not finite)
+    ∷ (Radius if zero-radius)
+    ∷ []
+
+-- what a vector becomes that takes the numbers of another: one of another length stays
+abbrev pub replaced : (from to : List Float) → List Float
+replaced from to = cond (eqb (length to) (length from)) from to
+
+-- the number that a call on vectors told
+abbrev pub value-of : Number → Float
+value-of (Is x) = x
+value-of (Refused r) = nought
+
+-- ---- a step is offered
+
+-- the kernel's door, with the vectors of a proposal beside its own, and then the trial
+unfoldable pub offering : (choice : ℕ) (epsilon : Float) (limit n : ℕ) (radius : Float) (point gradient hessian step trial scratch : List Float) → Answer Offer
+unfolding size door offer
+offering choice epsilon limit n radius point gradient hessian step trial scratch =
+    unless ((Size if not (all-sized n point gradient hessian step trial scratch)) ∷ [])
+    (then (offer n point) (door choice epsilon limit n radius gradient hessian scratch))
+
+-- a step p with its passes, p·g, p·H·p and ‖p‖
+abbrev pub measured : ℕ → (gradient hessian : List Float) → (passes : ℕ) → (p : List Float) → Offered
+measured n gradient hessian passes p = offered.Step passes (dot p gradient) (weighted n p hessian p) (norm p)
+
+abbrev pub told : ℕ → (gradient hessian : List Float) → Answer Offer → Offered
+told n gradient hessian (refused r) = offered.Refused r
+told n gradient hessian (given o) = measured n gradient hessian (o .passes) (o .step)
+
+-- the lists are those at entry, those with a prime at exit
+pub record Offers (n : ℕ) (gradient hessian : List Float) (answer : Answer Offer) (r : Offered) (step trial scratch step′ trial′ scratch′ : List Float) : Type 0 where
+  pub says : r ≡ told n gradient hessian answer
+  pub leaves-step : step′ ≡ left-in (λ o. o .step) answer step
+  pub leaves-trial : trial′ ≡ left-in (λ o. o .trial) answer trial
+  pub leaves-scratch : scratch′ ≡ scratch-after answer scratch

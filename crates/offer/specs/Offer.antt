@@ -1,0 +1,38 @@
+-- What every session that offers a step shares. Definitions only.
+use mathlib.Core.Bool.{Bool, not, _&&_}
+use mathlib.Core.List.{List, [], _∷_}
+use Prim.Native.Nat.{ℕ, _*_}
+use lib.Ieee.{Float, le}
+use Rattle.float.specs.Numbers.{finite}
+use Rattle.float.specs.Constants.{nought}
+use Rattle.vectors.specs.Vector.{plus, all-finite}
+use Rattle.vectors.specs.Refusal.{Answer, given, Check, _if_, unless, size, sized, room}
+use Rattle.kernels.specs.Kernel.{Made}
+use Rattle.vectors.specs.declared.refusal.Refusal.the-variants.{Range}
+
+-- "n is 1 to 64. Vectors have n numbers, matrices n·n by rows, scratch 2·n·n + 8·n, each exactly."
+abbrev pub all-sized : ℕ → (point gradient hessian step trial scratch : List Float) → Bool
+all-sized n point gradient hessian step trial scratch =
+    size n && sized n point && sized n gradient && sized (n * n) hessian && sized n step && sized n trial && sized (room n) scratch
+
+-- not "a session with negative or not finite radius, or cost not finite"
+abbrev pub steady : (radius cost : Float) → Bool
+steady radius cost = finite radius && le nought radius && finite cost
+
+-- what a proposal hands out
+pub record Offer : Type 0 where
+  pub step : List Float
+  pub trial : List Float
+  pub passes : ℕ
+
+-- "writes step and trial = step + point"
+abbrev pub offered : ℕ → (point : List Float) → Made → Offer
+offered n point m = record { step = m .step; trial = plus n (m .step) point; passes = m .passes }
+
+-- "8: the step, its norm, the trial point .. has a number that is not finite": the kernel has refused the step and its norm.
+abbrev pub offer-checks : Offer → List Check
+offer-checks o = (Range if not (all-finite (o .trial))) ∷ []
+
+unfoldable pub offer : ℕ → (point : List Float) → Made → Answer Offer
+unfolding plus all-finite
+offer n point m = unless (offer-checks (offered n point m)) (given (offered n point m))

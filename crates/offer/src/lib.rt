@@ -1,0 +1,140 @@
+// What every session that offers a step shares: its sizes and ranges, the kernel's run, and the trial point.
+pub mod lent;
+pub mod range;
+
+use kernels::choice;
+use kernels::kernel::Stepped;
+use vectors::refusal::Refusal;
+use vectors::vector;
+use vectors::vector::Number;
+ghost use mathlib.Core.Path.{_≡_};
+ghost use Prim.Native.Nat.{_+_, _≤_};
+ghost use lib.ListN.{length};
+ghost use Rattle.vectors.specs.Vector.{plus};
+ghost use Rattle.vectors.specs.Slots.{slot, Puts};
+ghost use Rattle.vectors.specs.Refusal.{Square};
+ghost use Rattle.kernels.specs.Kernel.{made};
+ghost use Rattle.offer.specs.Offer.{offer};
+ghost use Rattle.offer.specs.Calls as Calls;
+ghost use Rattle.offer.specs.Calls.{value-of, offering, Offers};
+
+// A step p, with its passes, p·g, p·H·p and ‖p‖; or why there is none.
+pub enum Offered {
+    Refused(Refusal),
+    Step {
+        passes: u64,
+        slope: f64,
+        curvature: f64,
+        norm: f64,
+    },
+}
+
+fn value(x: Number) -> f64
+    ensures { λ r. ⌜ r ≡ value-of x ⌝ }
+{
+    match x {
+        Number::Is(v) => v,
+        Number::Refused(_) => 0.0,
+    }
+}
+
+// What a session keeps of a step.
+fn measured(n: usize, gradient: &[f64], hessian: &[f64], passes: u64, step: &[f64]) -> Offered
+    requires { ⌜ Square n (length (now hessian)) × (length (now gradient) ≡ n) × (length (now step) ≡ n) ⌝ }
+    ensures { λ r. ⌜ r ≡ Calls.measured n (now (gradient .entry)) (now (hessian .entry)) passes (now (step .entry)) ⌝ }
+{
+    let slope = value(vector::dot(n, step, gradient));
+    let curvature = value(vector::weighted_dot(n, step, hessian, step));
+    let norm = value(vector::norm(n, step));
+    Offered::Step {
+        passes: passes,
+        slope: slope,
+        curvature: curvature,
+        norm: norm,
+    }
+}
+
+// The step stands at the start of the scratch, in slot 0; the trial is laid beside it, since nothing may be written that is still refused.
+fn lay_trial(n: usize, point: &[f64], w: &mut [f64])
+    requires { ⌜ (n + n ≤ length (now w)) × (length (now point) ≡ n) ⌝ }
+    ensures { λ _. ⌜ Puts (now (w .entry)) n 1 (plus n (slot (now (w .entry)) n 0) (now (point .entry))) (now (w .exit)) ⌝ }
+{
+    let mut i = 0;
+    while i < n {
+        w[n + i] = w[i] + point[i];
+        i += 1;
+    }
+}
+
+// Step and trial, from a step that a kernel laid out.
+fn hand_out(
+    n: usize,
+    passes: u64,
+    point: &[f64],
+    gradient: &[f64],
+    hessian: &[f64],
+    step: &mut [f64],
+    trial: &mut [f64],
+    scratch: &mut [f64],
+) -> Offered
+    requires { ⌜ (n + n ≤ length (now scratch)) × Square n (length (now hessian)) × (length (now point) ≡ n) × (length (now gradient) ≡ n) × (length (now step) ≡ n) × (length (now trial) ≡ n) ⌝ }
+    ensures { λ r. ⌜ Offers n (now (gradient .entry)) (now (hessian .entry)) (offer n (now (point .entry)) (made passes (slot (now (scratch .entry)) n 0)))
+        r (now (step .entry)) (now (trial .entry)) (now (scratch .entry)) (now (step .exit)) (now (trial .exit)) (now (scratch .exit)) ⌝ }
+{
+    lay_trial(n, point, scratch);
+    if !vector::all_finite(&scratch[n..n + n]) {
+        lent::clear(scratch);
+        return Offered::Refused(Refusal::Range);
+    }
+    lent::copy(&scratch[0..n], step);
+    lent::copy(&scratch[n..n + n], trial);
+    lent::clear(scratch);
+    measured(n, gradient, hessian, passes, step)
+}
+
+// The kernel of a number is run, and its step and the trial are written, unless a refusal is due.
+pub fn make(
+    kernel: u64,
+    n: usize,
+    radius: f64,
+    epsilon: f64,
+    limit: u64,
+    point: &[f64],
+    gradient: &[f64],
+    hessian: &[f64],
+    step: &mut [f64],
+    trial: &mut [f64],
+    scratch: &mut [f64],
+) -> Offered
+    ensures { λ r. ⌜ Offers n (now (gradient .entry)) (now (hessian .entry))
+        (offering kernel epsilon limit n radius (now (point .entry)) (now (gradient .entry)) (now (hessian .entry)) (now (step .entry)) (now (trial .entry)) (now (scratch .entry)))
+        r (now (step .entry)) (now (trial .entry)) (now (scratch .entry)) (now (step .exit)) (now (trial .exit)) (now (scratch .exit)) ⌝ }
+{
+    if !lent::all_sized(
+        n,
+        point.len(),
+        gradient.len(),
+        hessian.len(),
+        step.len(),
+        trial.len(),
+        scratch.len(),
+    ) {
+        return Offered::Refused(Refusal::Size);
+    }
+    let laid = choice::lay(
+        kernel,
+        n,
+        radius,
+        epsilon,
+        limit,
+        gradient,
+        hessian,
+        scratch,
+    );
+    match laid {
+        Stepped::Refused(r) => Offered::Refused(r),
+        Stepped::In(passes) => {
+            hand_out(n, passes, point, gradient, hessian, step, trial, scratch)
+        }
+    }
+}

@@ -1,0 +1,96 @@
+// What both sessions check: the ranges of their settings and of what they keep, and refusals 1 to 5.
+use vectors::refusal::Refusal;
+use vectors::refusal::Verdict;
+ghost use mathlib.Core.Path.{_≡_};
+ghost use mathlib.Core.Bool.{_&&_};
+ghost use Rattle.vectors.specs.Refusal.{judged};
+ghost use Rattle.kernels.specs.Kernel as Kernel;
+ghost use Rattle.offer.specs.Offer as Offer;
+ghost use Rattle.offer.specs.Calls as Calls;
+
+// All of six tests. A caller with fewer passes true for the first of them.
+pub fn all(a: bool, b: bool, c: bool, d: bool, e: bool, f: bool) -> bool
+    ensures { λ r. ⌜ r ≡ (a && b && c && d && e && f) ⌝ }
+{
+    if !a {
+        return false;
+    }
+    if !b {
+        return false;
+    }
+    if !c {
+        return false;
+    }
+    if !d {
+        return false;
+    }
+    if !e {
+        return false;
+    }
+    f
+}
+
+// Finite, and above zero.
+pub fn positive(x: f64) -> bool
+    ensures { λ r. ⌜ r ≡ Kernel.positive x ⌝ }
+{
+    if !float::finite(x) {
+        return false;
+    }
+    0.0 < x
+}
+
+// The number of a kernel.
+pub fn known(kernel: u64) -> bool
+    ensures { λ r. ⌜ r ≡ Calls.known kernel ⌝ }
+{
+    if kernel < 1 {
+        return false;
+    }
+    kernel <= 3
+}
+
+// Steihaug's epsilon and iteration limit.
+pub fn bounded(epsilon: f64, limit: u64) -> bool
+    ensures { λ r. ⌜ r ≡ Kernel.bounded epsilon limit ⌝ }
+{
+    if !positive(epsilon) {
+        return false;
+    }
+    limit <= 10000
+}
+
+// The radius and the cost that a session keeps.
+pub fn steady(radius: f64, cost: f64) -> bool
+    ensures { λ r. ⌜ r ≡ Offer.steady radius cost ⌝ }
+{
+    if !float::finite(radius) {
+        return false;
+    }
+    if 0.0 <= radius {
+        return float::finite(cost);
+    }
+    false
+}
+
+// Refusals 1 to 5 in the order of document 01's table. A call that lacks a check passes it.
+pub fn verdict(sized: bool, sound: bool, in_turn: bool, finite: bool, zero_radius: bool) -> Verdict
+    ensures { λ r. ⌜ r ≡ judged (Calls.early-checks sized sound «in_turn» finite «zero_radius») ⌝ }
+{
+    if !sized {
+        return Verdict::Failed(Refusal::Size);
+    }
+    if !sound {
+        return Verdict::Failed(Refusal::Setting);
+    }
+    if !in_turn {
+        return Verdict::Failed(Refusal::Turn);
+    }
+    if !finite {
+        return Verdict::Failed(Refusal::Entry);
+    }
+    if zero_radius {
+        return Verdict::Failed(Refusal::Radius);
+    }
+    Verdict::Passed
+}

@@ -1,0 +1,63 @@
+-- Laws of check lists and of what follows an answer, over any property of answers. Assumes nothing.
+use mathlib.Core.Path.{_≡_, refl}
+use mathlib.Core.Bool.{Bool, true, false, not, cond}
+use mathlib.Core.List.{List, [], _∷_}
+use Prim.Native.Nat.{ℕ}
+use native.Mathlib.Omega.{arith}
+use lib.Dec.{T, leb}
+use lib.ListN.{length}
+use lib.Ieee.{Float}
+use Rattle.float.specs.Constants.{nought}
+use Rattle.vectors.specs.Vector.{zeros}
+use Rattle.vectors.specs.Refusal.{Answer, refused, given, Check, unless, judged, then, number, scratch-after}
+use Rattle.vectors.specs.declared.refusal.Refusal.{Refusal}
+use Rattle.vectors.specs.declared.refusal.Verdict.the-variants.{Passed, Failed}
+use Rattle.vectors.proofs.Vectors.{length-tab}
+
+-- no check of the list applies
+abbrev pub None : List Check → Type 0
+None [] = Unit {0}
+None (c ∷ cs) = T (not (c .applies)) × None cs
+
+-- none applies where the verdict of the code is that all passed
+pub passed-none : (cs : List Check) → judged cs ≡ Passed → None cs
+passed-none [] e = tt
+passed-none (c ∷ cs) e = go (c .applies) e (passed-none cs)
+  where
+    go : (b : Bool) → cond b (Failed (c .refusal)) (judged cs) ≡ Passed → (judged cs ≡ Passed → None cs) → T (not b) × None cs
+    go true e f = let z : _≡_ {A = ℕ} 0 1 = cc in absurd (omega arith)
+    go false e f = (tt, f e)
+
+-- what holds of every refusal, and of the answer where no check applies, holds of the checked answer
+pub unless-elim : {A : Type 0} (P : Answer A → Type 0) (cs : List Check) (a : Answer A) → ((r : Refusal) → P (refused r)) → (None cs → P a) → P (unless cs a)
+unless-elim P [] a bad good = good tt
+unless-elim P (c ∷ cs) a bad good = go (c .applies) (λ v. unless-elim P cs a bad (λ w. good (v, w)))
+  where
+    go : (b : Bool) → (T (not b) → P (unless cs a)) → P (cond b (refused (c .refusal)) (unless cs a))
+    go true k = bad (c .refusal)
+    go false k = k tt
+
+pub then-elim : {A B : Type 0} (P : Answer B → Type 0) (f : A → Answer B) (a : Answer A) → ((r : Refusal) → P (refused r)) → ((x : A) → a ≡ given x → P (f x)) → P (then f a)
+then-elim P f (refused r) bad good = bad r
+then-elim P f (given x) bad good = good x refl
+
+-- a refusal gives nothing
+pub clash : {A : Type 0} {r : Refusal} {a : A} → refused r ≡ given a → ⊥
+clash e = let z : _≡_ {A = ℕ} 0 1 = cc in omega arith
+
+pub cond-elim : {A : Type 0} (P : A → Type 0) (b : Bool) {x y : A} → P x → P y → P (cond b x y)
+cond-elim P true p q = p
+cond-elim P false p q = q
+
+pub not-not : (b : Bool) → T (not (not b)) → T b
+not-not true w = tt
+not-not false w = w
+
+-- a call leaves a scratch as long as it was
+zeros-length : (n : ℕ) → length (zeros n) ≡ n
+unfolding zeros
+zeros-length n = length-tab n (λ i. nought)
+
+pub scratch-length : {A : Type 0} (a : Answer A) (v : List Float) → length (scratch-after a v) ≡ length v
+scratch-length (refused r) v = cond-elim (λ (x : List Float). length x ≡ length v) (leb (number r) 5) {x = v} {y = zeros (length v)} refl (zeros-length (length v))
+scratch-length (given x) v = zeros-length (length v)

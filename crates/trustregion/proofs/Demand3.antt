@@ -1,0 +1,73 @@
+-- Demand 3, of every choice of kernels whose steps have n numbers, and of ours. Assumes nothing.
+use mathlib.Core.Path.{_≡_, sym, _∙_, subst}
+use mathlib.Core.Bool.{false, not}
+use mathlib.Core.List.{List}
+use Prim.Native.Nat.{ℕ}
+use lib.Dec.{T, T-not}
+use lib.Ieee.{Float}
+use Rattle.vectors.specs.Refusal.{Answer, given}
+use Rattle.kernels.specs.Kernel.{Kernel, Proper}
+use Rattle.kernels.proofs.Choices.{kernel-proper}
+use Rattle.trustregion.specs.Settings.{chosen}
+use Rattle.trustregion.specs.Session.{awaits-cost, start-checks, start}
+use Rattle.trustregion.specs.Run.{Station, Call, Trial, Entry, run, final, calls, lent-same, strike, Thinned}
+use Rattle.trustregion.specs.Demand3.{Fair, Within, Same-run, Demand-3}
+use Rattle.trustregion.specs.declared.settings.Settings.{Settings}
+use Rattle.trustregion.specs.declared.session.Session.{Session}
+use Rattle.trustregion.specs.declared.session.Phase.the-variants.{Ready}
+use Rattle.trustregion.proofs.Checks.{unless-elim, clash}
+use Rattle.trustregion.proofs.Alike.{Alike, alike-refl, alike-trans}
+use Rattle.trustregion.proofs.Replay.{Replays, strike-replays, thinned-replays, strike-lent}
+use Rattle.trustregion.proofs.Trials.{strike-seen, thinned-trials}
+use Rattle.trustregion.proofs.Fair.{run-sound}
+
+-- each answer is a step of n numbers, or a refusal from 6 on
+abbrev pub All-proper : (Settings → Kernel) → Type 0
+All-proper kernel = (t : Settings) (n : ℕ) (radius : Float) (g H : List Float) → Proper n (kernel t n radius g H)
+
+module _ (kernel : Settings → Kernel) (proper : All-proper kernel) where
+  struck : (start : Station) → T (not (awaits-cost (start .session .phase)))
+      → (whole : List Call) → T (lent-same (run kernel start whole))
+      → (kept : List Entry) → Thinned (strike (run kernel start whole)) kept
+      → Same-run kernel start whole kept
+  struck start idle whole lent kept thin =
+      let left : List Entry = strike (run kernel start whole) in
+      let a : Replays kernel start whole start left = strike-replays kernel proper whole false start start lent (alike-refl start) in
+      let b : Replays kernel start (calls left) start kept =
+      thinned-replays kernel (calls left) start start kept
+      (subst (λ (es : List Entry). T (lent-same es)) (sym (a .replies)) (strike-lent false (run kernel start whole) lent))
+      (subst (λ (es : List Entry). Thinned es kept) (sym (a .replies)) thin)
+      (alike-refl start) in
+      let e : Alike (final kernel start whole) (final kernel start (calls kept)) =
+      alike-trans (final kernel start whole) (final kernel start (calls left)) (final kernel start (calls kept)) (a .ends) (b .ends) in
+      record {
+        replies = b .replies;
+        kept-trials = thinned-trials thin ∙ strike-seen kernel whole false start (λ w. absurd (T-not (awaits-cost (start .session .phase)) idle w));
+        phase = sym (e .phase);
+        radius = sym (e .radius);
+        point = sym (e .point);
+        cost = sym (e .cost);
+        gradient = sym (e .gradient);
+        hessian = sym (e .hessian);
+      }
+
+  pub for-proper : Demand-3 kernel
+  for-proper = record {
+    struck = struck;
+    fair = λ start whole. run-sound kernel (λ (t : Settings) (x : Trial). Fair (t .eta) x) (λ t x w. w .fair) whole start;
+    within = λ start whole. run-sound kernel (λ (t : Settings) (x : Trial). Within (t .«max_radius») x) (λ t x w. w .within) whole start;
+  }
+
+-- a session that was started is not inside a trial
+pub started-idle : (t : Settings) (f : Float) (s : Session) → start t f ≡ given s → T (not (awaits-cost (s .phase)))
+unfolding start
+started-idle t f s = unless-elim (λ (a : Answer Session). a ≡ given s → T (not (awaits-cost (s .phase)))) (start-checks t f) (given (begun t f)) (λ r e. absurd (clash e)) (λ w e. rw (same e) tt)
+  where
+    begun : Settings → Float → Session
+    begun t f = record { settings = t; radius = t .radius; cost = f; phase = Ready }
+
+    same : {x y : Session} → given x ≡ given y → y ≡ x
+    same e = cc
+
+pub for-our-kernels : Demand-3 chosen
+for-our-kernels = for-proper chosen (λ t. kernel-proper (t .kernel) (t .epsilon) (t .limit))

@@ -1,0 +1,119 @@
+-- Every trial of a run: accepted, it has a ratio above eta and, where a fall was predicted, a lower cost; and its radius stays within max_radius. Assumes nothing.
+use mathlib.Core.Path.{_≡_, refl, sym, _∙_, subst}
+use mathlib.Core.Bool.{Bool, true, false, not, _&&_}
+use mathlib.Core.List.{List, [], _∷_}
+use lib.Dec.{T, leb}
+use lib.Ieee.{Float, binary64, fits, lt, le}
+use lib.Ieee.Fits.{and-l, and-r}
+use Rattle.float.specs.Numbers.{_⊖_, _⊗_, finite, magnitude}
+use Rattle.float.specs.Constants.{nought, two, quarter, three-quarters, ten-epsilons}
+use Rattle.float.proofs.Order.{lt-real, le-lt-trans}
+use Rattle.float.proofs.Signs.{sub-above, div-above, smaller-le}
+use Rattle.vectors.specs.Refusal.{given}
+use Rattle.kernels.specs.Kernel.{Kernel, positive, bounded}
+use Rattle.trustregion.specs.Settings.{in-range}
+use Rattle.offer.specs.Offer.{steady}
+use Rattle.trustregion.specs.Session.{sound, Promise, awaiting, rho, next-radius, settled}
+use Rattle.trustregion.specs.Run.{Station, Lending, own, others, Call, Trial, Reply, refusal, proposed, judged, renewed, Done, on-proposal, on-judgement, on-renewal, lending-it, perform-by, perform, run, add-trial, trials, Every}
+use Rattle.trustregion.specs.Demand3.{Fair, Within}
+use Rattle.trustregion.specs.declared.settings.Settings.{Settings}
+use Rattle.trustregion.specs.declared.session.Session.{Session}
+use Rattle.trustregion.proofs.Checks.{cond-elim}
+use Rattle.trustregion.proofs.Quarter.{quarter-within}
+use Rattle.trustregion.proofs.Answers.{Came, refuses, offers, judges, renews, comes}
+
+-- ---- what `sound` says of eta and max_radius
+
+record Bounds (t : Settings) : Type 0 where
+  eta : T (le nought (t .eta))
+  max-radius : T (lt nought (t .«max_radius»))
+
+bounds : (s : Session) → T (sound s) → Bounds (s .settings)
+unfolding sound in-range positive
+bounds s w =
+    let t = s .settings in
+    let a = leb 1 (t .kernel) && leb (t .kernel) 3 && positive (t .radius) in
+    let b = positive (t .«max_radius») in
+    let c = finite (t .eta) && le nought (t .eta) && lt (t .eta) quarter in
+    let abc : T (a && b && c) = and-l (a && b && c) (bounded (t .epsilon) (t .limit)) (and-l (in-range t) (steady (s .radius) (s .cost)) w) in
+    record {
+      eta = and-r (finite (t .eta)) (le nought (t .eta)) (and-l (finite (t .eta) && le nought (t .eta)) (lt (t .eta) quarter) (and-r (a && b) c abc));
+      max-radius = and-r (finite (t .«max_radius»)) (lt nought (t .«max_radius»)) (and-r a b (and-l (a && b) c abc));
+    }
+
+-- ---- one trial
+
+accepted-falls : (eta f F m : Float) → T (le nought eta) → T (lt eta (rho f F m)) → T (lt nought (f ⊖ m)) → T (lt F f)
+accepted-falls eta f F m e w fall = sub-above f F (div-above (f ⊖ F) (f ⊖ m) fall (le-lt-trans nought eta (rho f F m) e w))
+
+next-within : (ratio norm radius bound : Float) → T (fits binary64 norm) → T (lt nought bound) → T (le radius bound) → T (le norm bound) → T (le (next-radius ratio norm radius bound) bound)
+unfolding next-radius
+next-within ratio norm radius bound f p h k =
+    cond-elim Under (lt ratio quarter) (quarter-within norm bound f p k)
+    (cond-elim Under (lt three-quarters ratio && le (magnitude (norm ⊖ radius)) ten-epsilons) (smaller-le bound (two ⊗ radius) (lt-real nought bound p .1)) h)
+  where
+    Under : Float → Type 0
+    Under x = T (le x bound)
+
+-- both, of a trial under the settings t
+pub record Sound-trial (t : Settings) (x : Trial) : Type 0 where
+  pub fair : Fair (t .eta) x
+  pub within : Within (t .«max_radius») x
+
+-- a call keeps the settings, and what it tells is sound
+abbrev Tells : Settings → Reply → Type 0
+Tells t (refusal r) = Unit {0}
+Tells t (proposed p x k) = Unit {0}
+Tells t (judged x) = Sound-trial t x
+Tells t renewed = Unit {0}
+
+record Good (t : Settings) (d : Done) : Type 0 where
+  keeps : d .after .session .settings ≡ t
+  tells : Tells t (d .reply)
+
+true-is : (b : Bool) → b ≡ true → T b
+true-is true e = tt
+true-is false e = subst (λ (x : Bool). T (not x)) e tt
+
+same-promise : {p q : Promise} → given p ≡ given q → p ≡ q
+same-promise e = cc
+
+came-good : (kernel : Settings → Kernel) (s : Station) (d : Done) → Came kernel s d → Good (s .session .settings) d
+unfolding on-proposal on-judgement on-renewal awaiting settled
+came-good kernel s d (refuses r scratch l) = record { keeps = refl; tells = tt }
+came-good kernel s d (offers n m z t e) = record { keeps = refl; tells = tt }
+came-good kernel s d (judges F p e t) = record {
+  keeps = refl;
+  tells = record {
+    fair = record {
+      above-eta = λ a. true-is _ a;
+      falls = λ a q i fall. accepted-falls (s .session .settings .eta) (s .session .cost) F (p .model) (bounds (s .session) t .eta) (true-is _ a) (rw (same-promise (sym e ∙ i)) fall);
+    };
+    within = λ q i f h k. let o : p ≡ q = same-promise (sym e ∙ i) in
+        next-within (rho (s .session .cost) F (p .model)) (p .norm) (s .session .radius) (s .session .settings .«max_radius») (rw o f) (bounds (s .session) t .max-radius) h (rw o k);
+  };
+}
+came-good kernel s d (renews g H) = record { keeps = refl; tells = tt }
+
+call-good : (kernel : Settings → Kernel) (c : Call) (s : Station) → Good (s .session .settings) (perform kernel c s)
+call-good kernel c s = go (c .lending)
+  where
+    go : (l : Lending) → Good (s .session .settings) (perform-by kernel l (c .request) s)
+    go own = came-good kernel s _ (comes kernel (c .request) s)
+    go (others v) = let g = came-good kernel (lending-it v s) _ (comes kernel (c .request) (lending-it v s)) in record { keeps = g .keeps; tells = g .tells }
+
+-- ---- a run
+
+add-every : (P : Trial → Type 0) (t : Settings) (r : Reply) (ts : List Trial) → ((x : Trial) → Sound-trial t x → P x) → Tells t r → Every P ts → Every P (add-trial r ts)
+add-every P t (refusal r) ts f w h = h
+add-every P t (proposed p x k) ts f w h = h
+add-every P t (judged x) ts f w h = (f x w, h)
+add-every P t renewed ts f w h = h
+
+pub run-sound : (kernel : Settings → Kernel) (P : Settings → Trial → Type 0) → ((t : Settings) (x : Trial) → Sound-trial t x → P t x)
+    → (cs : List Call) (s : Station) → Every (P (s .session .settings)) (trials (run kernel s cs))
+run-sound kernel P f [] s = tt
+run-sound kernel P f (c ∷ cs) s =
+    let g = call-good kernel c s in
+    add-every (P (s .session .settings)) (s .session .settings) (perform kernel c s .reply) (trials (run kernel (perform kernel c s .after) cs)) (f (s .session .settings)) (g .tells)
+    (subst (λ (t : Settings). Every (P t) (trials (run kernel (perform kernel c s .after) cs))) (g .keeps) (run-sound kernel P f cs (perform kernel c s .after)))

@@ -1,0 +1,12 @@
+pub mod Checks
+pub mod Answers
+pub mod Alike
+pub mod Replay
+pub mod Trials
+pub mod Quarter
+pub mod Fair
+pub mod Demand3
+pub mod Cases
+pub mod Calls
+pub mod Ends
+pub mod Kind

@@ -1,0 +1,33 @@
+-- `trustregion::trustregion_method::proposed` meets its contract. Assumes nothing.
+use borrow.Author.Needs.{needs}
+use Rattle.trustregion.proofs.Ends.{proposes-not, proposes-no-step, proposes-step}
+use Rattle.trustregion.proofs.trustregion_method.proposed.Statement.{statement}
+use Rattle.trustregion.proofs.trustregion_method.proposed.Tie as tie
+
+returns : tie.Need-returns
+returns c = proposes-not _ _ _ _ _ _ _ _ _ (c .before .before .before .proposal-checked .ensures) _ (c .before .checks .given .1)
+
+returns-2 : tie.Need-returns-2
+returns-2 c =
+    let made = c .before .before .before .before .before .before .before .before .before in
+    let told = made .before .before .before .before in
+    proposes-no-step _ _ _ _ _ _ _ _ _ (told .before .before .proposal-checked .ensures) (told .enum-told .given .1) _ _ _ _ (made .make .ensures) _ (c .before .offered .given .1)
+
+returns-3 : tie.Need-returns-3
+returns-3 c =
+    let offered = c .before .before in
+    let made = offered .before .before .before .before .before .before .before .before in
+    let told = made .before .before .before .before in
+    proposes-step _ _ _ _ _ _ _ _ _ (told .before .before .proposal-checked .ensures) (told .enum-told .given .1) _ _ _ _ (made .make .ensures) _ _ _ _ _ (offered .offered2 .given .1) (c .model-value .ensures)
+
+pub proposed-spec : {M : Type 1} → statement M
+proposed-spec =
+    tie.close
+    (tie.spec
+    (λ c κs. search needs) (λ c. search needs) (λ c. search needs) (λ c κs. search needs) (λ c. search needs) (λ c. search needs) (λ c κs. search needs)
+    (λ c. search needs) (λ c. search needs) (λ c. search needs)
+    returns
+    (λ c. search needs) (λ c. search needs) (λ c. search needs)
+    returns-2
+    (λ c. search needs) (λ c. search needs) (λ c. search needs)
+    returns-3)

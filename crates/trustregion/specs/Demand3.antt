@@ -1,0 +1,50 @@
+-- Demand 3 of the request, its sentences in their order, for any choice of kernels by the settings. Definitions only: `Demand3.for-our-kernels`, in proofs/, proves it of ours.
+use mathlib.Core.Path.{_≡_}
+use mathlib.Core.Bool.{true, not}
+use mathlib.Core.List.{List}
+use lib.Dec.{T}
+use lib.Ieee.{Float, binary64, fits, lt, le}
+use Rattle.float.specs.Numbers.{_⊖_}
+use Rattle.float.specs.Constants.{nought}
+use Rattle.vectors.specs.Refusal.{given}
+use Rattle.kernels.specs.Kernel.{Kernel}
+use Rattle.trustregion.specs.Session.{Promise, awaits-cost}
+use Rattle.trustregion.specs.Run.{Station, Call, Trial, Entry, run, final, calls, lent-same, strike, Thinned, trials, seen, Every}
+use Rattle.trustregion.specs.declared.settings.Settings.{Settings}
+
+-- "Each accepted trial has a ratio above eta; if its predicted fall is above zero, its cost is strictly below the one before." "Predicted fall is f − m."
+pub record Fair (eta : Float) (t : Trial) : Type 0 where
+  pub above-eta : t .accepted ≡ true → T (lt eta (t .ratio))
+  pub falls : t .accepted ≡ true → (p : Promise) → t .promise ≡ given p → T (lt nought (t .before ⊖ p .model)) → T (lt (t .cost) (t .before))
+
+-- "If radius and ‖p‖ are both at most max_radius, so is the next radius." Every f64 fits.
+abbrev pub Within : (max-radius : Float) → Trial → Type 0
+Within max-radius t =
+    (p : Promise) → t .promise ≡ given p → T (fits binary64 (p .norm))
+    → T (le (t .radius-before) max-radius) → T (le (p .norm) max-radius) → T (le (t .radius) max-radius)
+
+module _ (kernel : Settings → Kernel) where
+  -- The run of the calls `whole` from `start`, and "the shorter run, from the same start with the same other answers", of the calls of `kept`.
+  pub record Same-run (start : Station) (whole : List Call) (kept : List Entry) : Type 0 where
+    -- "gives the same proposals, ratios, verdicts and radii at the kept trials": each call is answered as it was,
+    pub replies : run kernel start (calls kept) ≡ kept
+    -- and its trials are those of the whole run that were not answered with NaN
+    pub kept-trials : trials kept ≡ seen (trials (run kernel start whole))
+    -- "and ends with the same phase, radius, point, cost, gradient and Hessian"
+    pub phase : final kernel start (calls kept) .session .phase ≡ final kernel start whole .session .phase
+    pub radius : final kernel start (calls kept) .session .radius ≡ final kernel start whole .session .radius
+    pub point : final kernel start (calls kept) .lent .point ≡ final kernel start whole .lent .point
+    pub cost : final kernel start (calls kept) .session .cost ≡ final kernel start whole .session .cost
+    pub gradient : final kernel start (calls kept) .lent .gradient ≡ final kernel start whole .lent .gradient
+    pub hessian : final kernel start (calls kept) .lent .hessian ≡ final kernel start whole .lent .hessian
+
+  pub record Demand-3 : Type 0 where
+    -- "In a `TrustRegion` session that is lent the same vectors, besides the answers, at every call not refused by 1, .. strike out every trial answered with NaN, with the refused calls inside it. .. Other refused calls may be struck too."
+    -- The start is any station that is not inside a trial.
+    pub struck :
+        (start : Station) → T (not (awaits-cost (start .session .phase)))
+        → (whole : List Call) → T (lent-same (run kernel start whole))
+        → (kept : List Entry) → Thinned (strike (run kernel start whole)) kept
+        → Same-run start whole kept
+    pub fair : (start : Station) (whole : List Call) → Every (Fair (start .session .settings .eta)) (trials (run kernel start whole))
+    pub within : (start : Station) (whole : List Call) → Every (Within (start .session .settings .«max_radius»)) (trials (run kernel start whole))

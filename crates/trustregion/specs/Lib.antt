@@ -1,0 +1,5 @@
+pub mod Settings
+pub mod Session
+pub mod Calls
+pub mod Run
+pub mod Demand3

@@ -1,0 +1,185 @@
+-- The `TrustRegion` session of document 01, on values: what each of its calls answers, for every input, refused ones too. Definitions only.
+-- A call is a function of the session, of n, and of the lent vectors as they are at entry. Its answer is a refusal, or all that the call changes.
+use mathlib.Core.Bool.{Bool, true, false, not, _&&_, _||_, cond}
+use mathlib.Core.List.{List, [], _∷_}
+use Prim.Native.Nat.{ℕ, _*_}
+use lib.Ieee.{Float, lt, le, eq, isNan}
+use Rattle.float.specs.Numbers.{_⊕_, _⊖_, _⊗_, finite, magnitude, smaller}
+use Rattle.float.specs.Constants.{nought, two, half, quarter, three-quarters, ten-epsilons}
+use Rattle.vectors.specs.Vector.{dot, norm, weighted, all-finite}
+use Rattle.vectors.specs.Refusal.{Answer, refused, given, Check, _if_, unless, then, size, sized}
+use Rattle.kernels.specs.Kernel.{Kernel}
+use Rattle.kernels.specs.Ratio.{reduction-ratio}
+use Rattle.vectors.specs.declared.refusal.Refusal.the-variants.{Size, Setting, Turn, Entry, Radius, Range}
+use Rattle.trustregion.specs.Settings.{in-range}
+use Rattle.offer.specs.Offer.{all-sized, steady, Offer, offer}
+use Rattle.trustregion.specs.declared.settings.Settings.{Settings}
+use Rattle.trustregion.specs.declared.session.Session.{Session}
+use Rattle.trustregion.specs.declared.session.Phase.{Phase}
+use Rattle.trustregion.specs.declared.session.Phase.the-variants.{Ready, AwaitingCost, AwaitingDerivatives}
+
+-- not "a setting out of range or not finite, or a session with negative or not finite radius, or cost not finite"; "a session checks all settings of its kind, whatever its kernel"
+unfoldable pub sound : Session → Bool
+unfolding in-range finite
+sound s = in-range (s .settings) && steady (s .radius) (s .cost)
+
+-- ---- phases: "ready; awaiting a cost, with the model value and step norm it was promised on; awaiting derivatives"
+
+abbrev pub is-ready : Phase → Bool
+is-ready Ready = true
+is-ready (AwaitingCost m norm) = false
+is-ready AwaitingDerivatives = false
+
+abbrev pub awaits-cost : Phase → Bool
+awaits-cost Ready = false
+awaits-cost (AwaitingCost m norm) = true
+awaits-cost AwaitingDerivatives = false
+
+abbrev pub awaits-derivatives : Phase → Bool
+awaits-derivatives Ready = false
+awaits-derivatives (AwaitingCost m norm) = false
+awaits-derivatives AwaitingDerivatives = true
+
+abbrev pub in-phase : Phase → Session → Session
+in-phase phase s = record { settings = s .settings; radius = s .radius; cost = s .cost; phase = phase }
+
+pub record Promise : Type 0 where
+  pub model : Float
+  pub norm : Float
+
+-- what a session that awaits a cost was promised on; any other is out of turn
+abbrev pub promised : Phase → Answer Promise
+promised Ready = refused Turn
+promised (AwaitingCost m norm) = given (record { model = m; norm = norm })
+promised AwaitingDerivatives = refused Turn
+
+-- ---- start: "takes settings and cost only"
+
+abbrev pub start-checks : Settings → Float → List Check
+start-checks settings f =
+    (Setting if not (in-range settings))
+    ∷ (Entry if not (finite f))
+    ∷ []
+
+unfoldable pub start : Settings → Float → Answer Session
+unfolding in-range finite
+start settings f = unless (start-checks settings f) (given (record { settings = settings; radius = settings .radius; cost = f; phase = Ready }))
+
+-- ---- propose
+
+pub record Proposal : Type 0 where
+  pub session : Session
+  pub offer : Offer
+
+-- "m = (f + p·g) + 0.5·(p·H·p)"
+unfoldable pub model-value : ℕ → (f : Float) → (gradient hessian step : List Float) → Float
+unfolding dot weighted
+model-value n f gradient hessian step = f ⊕ dot step gradient ⊕ half ⊗ weighted n step hessian step
+
+-- "keeps ‖p‖ and m"
+unfoldable pub awaiting : Session → ℕ → (gradient hessian : List Float) → Offer → Proposal
+unfolding model-value norm
+awaiting s n gradient hessian o = record {
+  session = in-phase (AwaitingCost (model-value n (s .cost) gradient hessian (o .step)) (norm (o .step))) s;
+  offer = o;
+}
+
+abbrev pub proposal-checks : Session → ℕ → (point gradient hessian step trial scratch : List Float) → List Check
+proposal-checks s n point gradient hessian step trial scratch =
+    (Size if not (all-sized n point gradient hessian step trial scratch))
+    ∷ (Setting if not (sound s))
+    ∷ (Turn if not (is-ready (s .phase)))
+    ∷ (Entry if not (all-finite point && all-finite gradient && all-finite hessian))
+    ∷ (Radius if eq (s .radius) nought)
+    ∷ []
+
+-- "propose runs the kernel, writes step and trial = step + point"
+unfoldable pub proposal : (Settings → Kernel) → Session → ℕ → (point gradient hessian step trial scratch : List Float) → Answer Proposal
+unfolding size sound all-finite offer awaiting
+proposal kernel s n point gradient hessian step trial scratch =
+    unless (proposal-checks s n point gradient hessian step trial scratch)
+    (then (λ (o : Offer). given (awaiting s n gradient hessian o))
+    (then (offer n point) (kernel (s .settings) n (s .radius) gradient hessian)))
+
+-- ---- the answer with a cost F
+
+pub record Judgement : Type 0 where
+  pub session : Session
+  pub point : List Float
+  pub ratio : Float
+  pub accepted : Bool
+
+-- "rho = (f − F)/(f − m)"
+abbrev pub rho : (f F m : Float) → Float
+rho f F m = reduction-ratio f F f m
+
+-- "rho < 0.25 gives 0.25·‖p‖; else rho > 0.75 and |‖p‖ − radius| ≤ 10·2^-52 gives the smaller of max_radius and 2·radius; else kept"
+unfoldable pub next-radius : (ratio norm radius max-radius : Float) → Float
+unfolding magnitude smaller
+next-radius ratio norm radius max-radius =
+    cond (lt ratio quarter) (quarter ⊗ norm)
+    (cond (lt three-quarters ratio && le (magnitude (norm ⊖ radius)) ten-epsilons) (smaller max-radius (two ⊗ radius))
+    radius)
+
+-- "rho > eta accepts: the point takes the lent trial's bits, the cost F, and derivatives are awaited"; a rejection "makes the session ready"
+unfoldable pub settled : Session → (F ratio radius : Float) → (point trial : List Float) → Judgement
+settled s F ratio radius point trial =
+    let accepts = lt (s .settings .eta) ratio in
+    record {
+      session = record { settings = s .settings; radius = radius; cost = cond accepts F (s .cost); phase = cond accepts AwaitingDerivatives Ready };
+      point = cond accepts trial point;
+      ratio = ratio;
+      accepted = accepts;
+    }
+
+-- "trial cost infinite (NaN is taken)"
+abbrev pub verdict-checks : (F radius : Float) → (trial : List Float) → List Check
+verdict-checks F radius trial =
+    (Entry if not (all-finite trial && (finite F || isNan F)))
+    ∷ (Range if not (finite radius))
+    ∷ []
+
+-- the verdict by a ratio and the next radius that it gives
+abbrev pub verdict : Session → (F ratio radius : Float) → (point trial : List Float) → Answer Judgement
+verdict s F ratio radius point trial = unless (verdict-checks F radius trial) (given (settled s F ratio radius point trial))
+
+abbrev pub radius-by : Session → (ratio norm : Float) → Float
+radius-by s ratio norm = next-radius ratio norm (s .radius) (s .settings .«max_radius»)
+
+unfoldable pub judge : Session → (F : Float) → (point trial : List Float) → Promise → Answer Judgement
+unfolding next-radius settled all-finite finite isNan
+judge s F point trial p = verdict s F (rho (s .cost) F (p .model)) (radius-by s (rho (s .cost) F (p .model)) (p .norm)) point trial
+
+abbrev pub judgement-checks : Session → ℕ → (point trial : List Float) → List Check
+judgement-checks s n point trial =
+    (Size if not (size n && sized n point && sized n trial))
+    ∷ (Setting if not (sound s))
+    ∷ []
+
+-- refusal 3 is `promised`'s
+unfoldable pub judgement : Session → ℕ → Float → (point trial : List Float) → Answer Judgement
+unfolding size sound judge
+judgement s n F point trial = unless (judgement-checks s n point trial) (then (judge s F point trial) (promised (s .phase)))
+
+-- ---- the answer with new derivatives: "copied into gradient and Hessian and makes the session ready"
+
+pub record Renewal : Type 0 where
+  pub session : Session
+  pub gradient : List Float
+  pub hessian : List Float
+
+abbrev pub renewal-checks : Session → ℕ → (new-gradient new-hessian gradient hessian : List Float) → List Check
+renewal-checks s n new-gradient new-hessian gradient hessian =
+    (Size if not (size n && sized n new-gradient && sized (n * n) new-hessian && sized n gradient && sized (n * n) hessian))
+    ∷ (Setting if not (sound s))
+    ∷ (Turn if not (awaits-derivatives (s .phase)))
+    ∷ (Entry if not (all-finite new-gradient && all-finite new-hessian))
+    ∷ []
+
+abbrev pub renewed-by : Session → (new-gradient new-hessian : List Float) → Renewal
+renewed-by s new-gradient new-hessian = record { session = in-phase Ready s; gradient = new-gradient; hessian = new-hessian }
+
+unfoldable pub renewal : Session → ℕ → (new-gradient new-hessian gradient hessian : List Float) → Answer Renewal
+unfolding size sound all-finite
+renewal s n new-gradient new-hessian gradient hessian =
+    unless (renewal-checks s n new-gradient new-hessian gradient hessian) (given (renewed-by s new-gradient new-hessian))
