@@ -3,12 +3,16 @@ use mathlib.Core.Bool.{true, false}
 use mathlib.Core.List.{List, [], _∷_}
 use Prim.Native.Nat.{ℕ}
 use lib.Ieee.{Float, binary64, round, neg}
-use Rattle.float.specs.Constants.{nought, one, billionth}
+use Rattle.float.specs.Constants.{nought, one, two, half, quarter, eighth, hundred, billionth}
 use Rattle.vectors.specs.Refusal.{Answer, given}
 use Rattle.kernels.specs.Kernel.{Made, made}
 use Rattle.kernels.specs.CauchyPoint.{cauchy-point}
 use Rattle.kernels.specs.Dogleg.{dogleg}
 use Rattle.kernels.specs.Steihaug.{steihaug}
+use Rattle.trustregion.specs.Session.{Judgement, judgement}
+use Rattle.trustregion.specs.declared.session.Session.{Session}
+use Rattle.trustregion.specs.declared.session.Phase.{Phase}
+use Rattle.trustregion.specs.declared.session.Phase.the-variants.{Ready, AwaitingCost, AwaitingDerivatives}
 
 infix 30 _over_
 infix 30 minus_over_
@@ -21,10 +25,15 @@ unfoldable pub minus_over_ : ℕ → ℕ → Float
 unfolding round
 minus a over b = round binary64 true a b
 
+-- a kernel's answer, and a TrustRegion session's to a cost
+pub data Found : Type 0 where
+  kernel : Answer Made → Found
+  session : Answer Judgement → Found
+
 -- what a definition gives, and what the case wants
 pub record Case : Type 0 where
-  pub gives : Answer Made
-  pub wants : Answer Made
+  pub gives : Found
+  pub wants : Found
 
 -- "g = (3, 4); I the identity"
 abbrev g : List Float
@@ -36,32 +45,62 @@ I = one ∷ nought ∷ nought ∷ one ∷ []
 abbrev -I : List Float
 -I = (minus 1 over 1) ∷ nought ∷ nought ∷ (minus 1 over 1) ∷ []
 
+-- a step of these numbers, in so many passes
+abbrev steps-to : ℕ → List Float → Found
+steps-to k step = kernel (given (made k step))
+
 -- the steps (−3, −4), (−1.5, −2), (−0, −0) and (0, 0), in so many passes
-abbrev whole-step : ℕ → Answer Made
-whole-step k = given (made k ((minus 3 over 1) ∷ (minus 4 over 1) ∷ []))
+abbrev whole-step : ℕ → Found
+whole-step k = steps-to k ((minus 3 over 1) ∷ (minus 4 over 1) ∷ [])
 
-abbrev half-step : ℕ → Answer Made
-half-step k = given (made k ((minus 3 over 2) ∷ (minus 2 over 1) ∷ []))
+abbrev half-step : ℕ → Found
+half-step k = steps-to k ((minus 3 over 2) ∷ (minus 2 over 1) ∷ [])
 
-abbrev zero-step : Answer Made
-zero-step = given (made 0 (nought ∷ nought ∷ []))
+abbrev zero-step : Found
+zero-step = steps-to 0 (nought ∷ nought ∷ [])
 
-abbrev minus-zero-step : Answer Made
-minus-zero-step = given (made 0 ((minus 0 over 1) ∷ (minus 0 over 1) ∷ []))
+abbrev minus-zero-step : Found
+minus-zero-step = steps-to 0 ((minus 0 over 1) ∷ (minus 0 over 1) ∷ [])
+
+-- a session of the defaults but for max_radius: radius 2.5, and "f 10"
+abbrev session-of : (max-radius radius f : Float) → Phase → Session
+session-of max-radius radius f phase = record {
+  settings = record { kernel = 1; radius = one; «max_radius» = max-radius; eta = eighth; epsilon = billionth; limit = 5 };
+  radius = radius;
+  cost = f;
+  phase = phase;
+}
+
+-- it awaits the cost of the trial (2) at the point (1), with the model value m and "‖p‖ = radius = 2.5", and is answered F
+abbrev answered : (max-radius m F : Float) → Found
+answered max-radius m F = session (judgement (session-of max-radius (5 over 2) (10 over 1) (AwaitingCost m (5 over 2))) 1 F (one ∷ []) (two ∷ []))
+
+-- the verdict by a ratio, and the radius after it
+abbrev rejected : (max-radius ratio radius : Float) → Found
+rejected max-radius ratio radius = session (given (record { session = session-of max-radius radius (10 over 1) Ready; point = one ∷ []; ratio = ratio; accepted = false }))
+
+abbrev accepted : (max-radius ratio radius F : Float) → Found
+accepted max-radius ratio radius F = session (given (record { session = session-of max-radius radius F AwaitingDerivatives; point = two ∷ []; ratio = ratio; accepted = true }))
 
 unfoldable pub cases : List Case
-unfolding _over_ minus_over_ cauchy-point dogleg steihaug
+unfolding _over_ minus_over_ cauchy-point dogleg steihaug judgement
 cases =
     -- 1. Cauchy, I, radius 10: (−3, −4). 2. Radius 2.5: (−1.5, −2). 3. Cauchy, −I, 2.5: (−1.5, −2).
-    record { gives = cauchy-point 2 (10 over 1) g I; wants = whole-step 0 }
-    ∷ record { gives = cauchy-point 2 (5 over 2) g I; wants = half-step 0 }
-    ∷ record { gives = cauchy-point 2 (5 over 2) g -I; wants = half-step 0 }
+    record { gives = kernel (cauchy-point 2 (10 over 1) g I); wants = whole-step 0 }
+    ∷ record { gives = kernel (cauchy-point 2 (5 over 2) g I); wants = half-step 0 }
+    ∷ record { gives = kernel (cauchy-point 2 (5 over 2) g -I); wants = half-step 0 }
     -- 4. Dogleg, I, 5: (−3, −4). 5. Dogleg, I, 1: (−0, −0).
-    ∷ record { gives = dogleg 2 (5 over 1) g I; wants = whole-step 0 }
-    ∷ record { gives = dogleg 2 (1 over 1) g I; wants = minus-zero-step }
+    ∷ record { gives = kernel (dogleg 2 (5 over 1) g I); wants = whole-step 0 }
+    ∷ record { gives = kernel (dogleg 2 (1 over 1) g I); wants = minus-zero-step }
     -- 6. Steihaug, I, 10, limit 5: (−3, −4), 1 pass. 7. Radius 2.5: (−1.5, −2), 1 pass. 8. −I, 2.5: (−1.5, −2). 9. Limit 0: (0, 0), 0 passes.
-    ∷ record { gives = steihaug billionth 5 2 (10 over 1) g I; wants = whole-step 1 }
-    ∷ record { gives = steihaug billionth 5 2 (5 over 2) g I; wants = half-step 1 }
-    ∷ record { gives = steihaug billionth 5 2 (5 over 2) g -I; wants = half-step 1 }
-    ∷ record { gives = steihaug billionth 0 2 (10 over 1) g I; wants = zero-step }
+    ∷ record { gives = kernel (steihaug billionth 5 2 (10 over 1) g I); wants = whole-step 1 }
+    ∷ record { gives = kernel (steihaug billionth 5 2 (5 over 2) g I); wants = half-step 1 }
+    ∷ record { gives = kernel (steihaug billionth 5 2 (5 over 2) g -I); wants = half-step 1 }
+    ∷ record { gives = kernel (steihaug billionth 0 2 (10 over 1) g I); wants = zero-step }
+    -- 10. f 10, m 6, F 9.5, eta 0.125: rho 0.125, rejected, radius 0.25·‖p‖. 11. F 9: 0.25, accepted, kept.
+    ∷ record { gives = answered hundred (6 over 1) (19 over 2); wants = rejected hundred eighth (5 over 8) }
+    ∷ record { gives = answered hundred (6 over 1) (9 over 1); wants = accepted hundred quarter (5 over 2) (9 over 1) }
+    -- 12. F 6, ‖p‖ = radius = 2.5, max 4: radius 4. 13. f 10, m 14, F 12: 0.5, accepted uphill.
+    ∷ record { gives = answered (4 over 1) (6 over 1) (6 over 1); wants = accepted (4 over 1) one (4 over 1) (6 over 1) }
+    ∷ record { gives = answered hundred (14 over 1) (12 over 1); wants = accepted hundred half (5 over 2) (12 over 1) }
     ∷ []

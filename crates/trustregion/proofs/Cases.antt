@@ -1,15 +1,15 @@
--- Document 01's marked cases 10 to 13 in one table, and a run with a NaN trial, worked out over the definitions. Assumes nothing.
+-- A run with a NaN trial, and the order of refusals, worked out over the definitions. Assumes nothing. (Document 01's marked cases are crates/marked.)
 use mathlib.Core.Path.{_≡_, refl}
 use mathlib.Core.Bool.{Bool, true, false, _&&_}
 use mathlib.Core.List.{List, [], _∷_, map}
 use Prim.Native.Nat.{ℕ, _+_, _^_}
 use lib.Ieee.{Float, nan, inf, binary64, round, ofBits, add, sub, mul, div, neg, lt, le, eq, isNan}
-use Rattle.float.specs.Constants.{nought, one, two, hundred, half, quarter, eighth, billionth}
+use Rattle.float.specs.Constants.{nought, one, two}
 use Rattle.vectors.specs.Vector.{zeros}
 use Rattle.vectors.specs.Refusal.{Answer, refused, given, number, room}
 use Rattle.kernels.specs.Choice as Choice
 use Rattle.trustregion.specs.Settings.{by-default, chosen}
-use Rattle.trustregion.specs.Session.{proposal, Judgement, next-radius, judgement}
+use Rattle.trustregion.specs.Session.{proposal, next-radius, judgement}
 use Rattle.trustregion.specs.Run.{Station, Request, propose, cost, derivatives, own, others, Call, respond, run, final, calls, lent-same, strike, Trial, trials}
 use Rattle.trustregion.specs.declared.session.Session.{Session}
 use Rattle.trustregion.specs.declared.session.Phase.{Phase}
@@ -20,45 +20,6 @@ infix 30 _over_
 unfoldable pub _over_ : ℕ → ℕ → Float
 unfolding round
 a over b = round binary64 false a b
-
--- ---- 10 to 13
-
-pub record Case : Type 0 where
-  pub gives : Answer Judgement
-  pub wants : Answer Judgement
-
--- f 10, eta 0.125, ‖p‖ = radius = 2.5; point 1, trial 2
-abbrev session : (max-radius radius f : Float) → Phase → Session
-session max-radius radius f phase = record {
-  settings = record { kernel = 1; radius = one; «max_radius» = max-radius; eta = eighth; epsilon = billionth; limit = 5 };
-  radius = radius;
-  cost = f;
-  phase = phase;
-}
-
-abbrev answered : (max-radius m F : Float) → Answer Judgement
-answered max-radius m F = judgement (session max-radius (5 over 2) (10 over 1) (AwaitingCost m (5 over 2))) 1 F (one ∷ []) (two ∷ [])
-
-abbrev rejected : (max-radius ratio radius : Float) → Answer Judgement
-rejected max-radius ratio radius = given (record { session = session max-radius radius (10 over 1) Ready; point = one ∷ []; ratio = ratio; accepted = false })
-
-abbrev accepted : (max-radius ratio radius F : Float) → Answer Judgement
-accepted max-radius ratio radius F = given (record { session = session max-radius radius F AwaitingDerivatives; point = two ∷ []; ratio = ratio; accepted = true })
-
-unfoldable pub cases : List Case
-unfolding _over_ judgement
-cases =
-    -- 10. f 10, m 6, F 9.5, eta 0.125: rho 0.125, rejected, radius 0.25·‖p‖. 11. F 9: 0.25, accepted, kept.
-    record { gives = answered hundred (6 over 1) (19 over 2); wants = rejected hundred eighth (5 over 8) }
-    ∷ record { gives = answered hundred (6 over 1) (9 over 1); wants = accepted hundred quarter (5 over 2) (9 over 1) }
-    -- 12. F 6, ‖p‖ = radius = 2.5, max 4: radius 4. 13. f 10, m 14, F 12: 0.5, accepted uphill.
-    ∷ record { gives = answered (4 over 1) (6 over 1) (6 over 1); wants = accepted (4 over 1) one (4 over 1) (6 over 1) }
-    ∷ record { gives = answered hundred (14 over 1) (12 over 1); wants = accepted hundred half (5 over 2) (12 over 1) }
-    ∷ []
-
-pub marked : map (λ (c : Case). c .gives) cases ≡ map (λ (c : Case). c .wants) cases
-unfolding cases ofBits sub mul div lt le eq isNan
-marked = refl
 
 -- "|‖p‖ − radius| ≤ 10·2^-52" is no matter of proportion: at radius 2^53 the next number is too far off.
 pub far-off : eq (next-radius one ((2 ^ 53 + 2) over 1) ((2 ^ 53) over 1) ((2 ^ 60) over 1)) ((2 ^ 53) over 1) ≡ true
@@ -126,12 +87,15 @@ abbrev numbered : {A : Type 0} → Answer A → ℕ
 numbered (refused r) = number r
 numbered (given a) = 0
 
+abbrev session : (radius f : Float) → Phase → Session
+session radius f phase = record { settings = by-default 1 5; radius = radius; cost = f; phase = phase }
+
 -- a proposal asked of a session at the station's vectors but for the point, and an answer of F to one
 abbrev asked : (radius f : Float) → Phase → ℕ → (point : List Float) → ℕ
-asked radius f phase n point = numbered (proposal chosen (session hundred radius f phase) n point (station .lent .gradient) (station .lent .hessian) point point (station .lent .scratch))
+asked radius f phase n point = numbered (proposal chosen (session radius f phase) n point (station .lent .gradient) (station .lent .hessian) point point (station .lent .scratch))
 
 abbrev told : Phase → (n : ℕ) (F : Float) → ℕ
-told phase n F = numbered (judgement (session hundred one one phase) n F (one ∷ []) (one ∷ []))
+told phase n F = numbered (judgement (session one one phase) n F (one ∷ []) (one ∷ []))
 
 -- each call has the faults of those after it too, as far as it can
 pub lowest :
