@@ -208,18 +208,18 @@ fn next_radius(ratio: f64, norm: f64, radius: f64, max_radius: f64) -> f64
 }
 
 // The verdict on a trial that was promised on a model value and a step norm.
-fn judge(s: Session, model: f64, norm: f64, cost: f64, point: &mut [f64], trial: &[f64]) -> After
+fn judge(s: Session, model: f64, norm: f64, answer: f64, point: &mut [f64], trial: &[f64]) -> After
     requires { ⌜ length (now point) ≡ length (now trial) ⌝ }
-    ensures { λ r. ⌜ Judges (Definition.judge s cost (now (point .entry)) (now (trial .entry)) (record { model = model; norm = norm })) s (now (point .entry)) r (now (point .exit)) ⌝ }
+    ensures { λ r. ⌜ Judges (Definition.judge s answer (now (point .entry)) (now (trial .entry)) (record { model = model; norm = norm })) s (now (point .entry)) r (now (point .exit)) ⌝ }
 {
     let settings = s.settings;
     let radius = s.radius;
     let before = s.cost;
     let max_radius = settings.max_radius;
     let eta = settings.eta;
-    let ratio = kernels::reduction_ratio(before, cost, before, model);
+    let ratio = kernels::reduction_ratio(before, answer, before, model);
     let next = next_radius(ratio, norm, radius, max_radius);
-    let checks = verdict_checked(cost, next, trial);
+    let checks = verdict_checked(answer, next, trial);
     match checks {
         Verdict::Failed(r) => After {
             session: s,
@@ -232,7 +232,7 @@ fn judge(s: Session, model: f64, norm: f64, cost: f64, point: &mut [f64], trial:
                     session: Session {
                         settings: settings,
                         radius: next,
-                        cost: cost,
+                        cost: answer,
                         phase: Phase::AwaitingDerivatives,
                     },
                     outcome: Outcome::Accepted(ratio),
