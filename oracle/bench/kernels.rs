@@ -64,9 +64,9 @@ macro_rules! linked {
 // The table of names.
 #[cfg(feature = "rattle")]
 linked! {
-    Cauchy: bench_cauchy_point,
-    Dogleg: bench_dogleg,
-    Steihaug: bench_steihaug,
+    Cauchy: mboyaxin_cauchy_point,
+    Dogleg: mboyaxin_dogleg,
+    Steihaug: mboyaxin_steihaug,
 }
 
 #[cfg(not(feature = "rattle"))]

@@ -1,0 +1,172 @@
+// The functions as C and Rust may call them. An enum cannot cross that border: a refusal is its number, 0 says that there is none,
+// and a number that was refused is +0. The benchmark times the kernels here, and what reads the bits of a NaN from outside calls the rest.
+use kernels::kernel::Stepped;
+use vectors::refusal::Outcome;
+use vectors::vector::Number;
+ghost use mathlib.Core.Path.{_≡_};
+ghost use mathlib.Core.Bool.{true};
+ghost use Rattle.vectors.specs.Vector as Vector;
+ghost use Rattle.vectors.specs.Calls.{dot-answer, norm-answer, weighted-answer, product-answer};
+ghost use Rattle.kernels.specs.Ratio.{reduction-ratio};
+ghost use Rattle.kernels.specs.Kernel.{called, bounded};
+ghost use Rattle.kernels.specs.CauchyPoint.{cauchy-point};
+ghost use Rattle.kernels.specs.Dogleg.{dogleg};
+ghost use Rattle.kernels.specs.Steihaug.{steihaug};
+ghost use Rattle.kernels.specs.Inverse.{inverse-answer};
+ghost use Rattle.foreign.specs.Foreign as Foreign;
+ghost use Rattle.foreign.specs.Foreign.{shown, Numbered, Filled, Cleared};
+
+// ---- numbers
+
+fn value(found: Number) -> f64
+    ensures { λ r. ⌜ r ≡ Foreign.value found ⌝ }
+{
+    match found {
+        Number::Is(x) => x,
+        Number::Refused(_) => 0.0,
+    }
+}
+
+#[no_mangle]
+pub extern "C" fn mboyaxin_dot(n: usize, a: &[f64], b: &[f64]) -> f64
+    ensures { λ r. ⌜ r ≡ shown (dot-answer n (now (a .entry)) (now (b .entry))) ⌝ }
+{
+    value(vectors::vector::dot(n, a, b))
+}
+
+#[no_mangle]
+pub extern "C" fn mboyaxin_norm(n: usize, a: &[f64]) -> f64
+    ensures { λ r. ⌜ r ≡ shown (norm-answer n (now (a .entry))) ⌝ }
+{
+    value(vectors::vector::norm(n, a))
+}
+
+#[no_mangle]
+pub extern "C" fn mboyaxin_weighted_dot(n: usize, a: &[f64], h: &[f64], b: &[f64]) -> f64
+    ensures { λ r. ⌜ r ≡ shown (weighted-answer n (now (a .entry)) (now (h .entry)) (now (b .entry))) ⌝ }
+{
+    value(vectors::vector::weighted_dot(n, a, h, b))
+}
+
+#[no_mangle]
+pub extern "C" fn mboyaxin_dot_any(a: &[f64], b: &[f64]) -> f64
+    ensures { λ r. ⌜ r ≡ Vector.dot (now (a .entry)) (now (b .entry)) ⌝ }
+{
+    vectors::vector::dot_any(a, b)
+}
+
+#[no_mangle]
+pub extern "C" fn mboyaxin_norm_any(a: &[f64]) -> f64
+    ensures { λ r. ⌜ r ≡ Vector.norm (now (a .entry)) ⌝ }
+{
+    vectors::vector::norm_any(a)
+}
+
+#[no_mangle]
+pub extern "C" fn mboyaxin_reduction_ratio(
+    cost: f64,
+    trial_cost: f64,
+    model_start: f64,
+    model_trial: f64,
+) -> f64
+    ensures { λ r. ⌜ r ≡ reduction-ratio cost «trial_cost» «model_start» «model_trial» ⌝ }
+{
+    kernels::reduction_ratio(cost, trial_cost, model_start, model_trial)
+}
+
+// ---- lists
+
+fn outcome(found: Outcome) -> u64
+    ensures { λ r. ⌜ r ≡ Foreign.outcome found ⌝ }
+{
+    match found {
+        Outcome::Written => 0,
+        Outcome::Refused(r) => vectors::refusal::number(r),
+    }
+}
+
+#[no_mangle]
+pub extern "C" fn mboyaxin_product(n: usize, h: &[f64], d: &[f64], out: &mut [f64]) -> u64
+    ensures { λ r. ⌜ Filled (product-answer n (now (h .entry)) (now (d .entry)) (now (out .entry))) r (now (out .entry)) (now (out .exit)) ⌝ }
+{
+    outcome(vectors::vector::product(n, h, d, out))
+}
+
+#[no_mangle]
+pub extern "C" fn mboyaxin_inverse(n: usize, h: &[f64], out: &mut [f64], scratch: &mut [f64]) -> u64
+    ensures { λ r. ⌜ Cleared (inverse-answer n (now (h .entry)) (now (out .entry)) (now (scratch .entry)))
+        r (now (out .entry)) (now (out .exit)) (now (scratch .entry)) (now (scratch .exit)) ⌝ }
+{
+    outcome(kernels::inverse::inverse(n, h, out, scratch))
+}
+
+// ---- kernels, all of one shape: Cauchy and Dogleg pass over epsilon and limit
+
+fn stepped(found: Stepped) -> u64
+    ensures { λ r. ⌜ r ≡ Foreign.stepped-number found ⌝ }
+{
+    match found {
+        Stepped::In(_) => 0,
+        Stepped::Refused(r) => vectors::refusal::number(r),
+    }
+}
+
+#[no_mangle]
+pub extern "C" fn mboyaxin_cauchy_point(
+    n: usize,
+    radius: f64,
+    epsilon: f64,
+    limit: u64,
+    gradient: &[f64],
+    hessian: &[f64],
+    step: &mut [f64],
+    scratch: &mut [f64],
+) -> u64
+    ensures { λ r. ⌜ Numbered (called true cauchy-point n radius (now (gradient .entry)) (now (hessian .entry)) (now (step .entry)) (now (scratch .entry)))
+        r (now (step .entry)) (now (step .exit)) (now (scratch .entry)) (now (scratch .exit)) ⌝ }
+{
+    stepped(kernels::cauchypoint::cauchy_point(n, radius, gradient, hessian, step, scratch))
+}
+
+#[no_mangle]
+pub extern "C" fn mboyaxin_dogleg(
+    n: usize,
+    radius: f64,
+    epsilon: f64,
+    limit: u64,
+    gradient: &[f64],
+    hessian: &[f64],
+    step: &mut [f64],
+    scratch: &mut [f64],
+) -> u64
+    ensures { λ r. ⌜ Numbered (called true dogleg n radius (now (gradient .entry)) (now (hessian .entry)) (now (step .entry)) (now (scratch .entry)))
+        r (now (step .entry)) (now (step .exit)) (now (scratch .entry)) (now (scratch .exit)) ⌝ }
+{
+    stepped(kernels::dogleg::dogleg(n, radius, gradient, hessian, step, scratch))
+}
+
+#[no_mangle]
+pub extern "C" fn mboyaxin_steihaug(
+    n: usize,
+    radius: f64,
+    epsilon: f64,
+    limit: u64,
+    gradient: &[f64],
+    hessian: &[f64],
+    step: &mut [f64],
+    scratch: &mut [f64],
+) -> u64
+    ensures { λ r. ⌜ Numbered (called (bounded epsilon limit) (steihaug epsilon limit) n radius (now (gradient .entry)) (now (hessian .entry)) (now (step .entry)) (now (scratch .entry)))
+        r (now (step .entry)) (now (step .exit)) (now (scratch .entry)) (now (scratch .exit)) ⌝ }
+{
+    stepped(kernels::steihaug::steihaug(
+        n,
+        radius,
+        epsilon,
+        limit,
+        gradient,
+        hessian,
+        step,
+        scratch,
+    ))
+}

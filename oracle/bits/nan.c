@@ -1,0 +1,132 @@
+/* Reads from outside the bits of what the Rattle functions hand out. To the proofs all NaN are one, so only a run can see
+   whether 7ff8000000000000 is the one that leaves. There are no headers where this is compiled: what is called is declared. */
+
+typedef unsigned long word;
+int printf(const char *, ...);
+
+double one_nan(double), magnitude(double), smaller(double, double), float_of(word), root(double);
+word bits_of(double);
+
+/* crates/foreign; a slice is a pointer and a length */
+double mboyaxin_reduction_ratio(double, double, double, double);
+double mboyaxin_dot(word n, const double *a, word al, const double *b, word bl);
+double mboyaxin_dot_any(const double *a, word al, const double *b, word bl);
+double mboyaxin_norm(word n, const double *a, word al);
+double mboyaxin_norm_any(const double *a, word al);
+double mboyaxin_weighted_dot(word n, const double *a, word al, const double *h, word hl, const double *b, word bl);
+word mboyaxin_product(word n, const double *h, word hl, const double *d, word dl, double *out, word ol);
+word mboyaxin_inverse(word n, const double *h, word hl, double *out, word ol, double *scratch, word sl);
+
+static const word ONE_NAN = 0x7ff8000000000000;
+static const word SIGN = 0x8000000000000000;
+static const word TOP = 0x7ff0000000000000;
+
+/* Bits are read and written as whole numbers: no operation on a NaN comes between. */
+static word bits(double x) { union { double x; word w; } u = { .x = x }; return u.w; }
+static double number(word w) { union { double x; word w; } u = { .w = w }; return u.x; }
+static int nan_bits(word w) { return (w & ~SIGN) > TOP; }
+
+static word patterns, wrong;
+
+static void see(const char *name, word input, word got, word right) {
+    patterns++;
+    if (got == right) return;
+    if (++wrong <= 10) printf("%s of %016lx hands out %016lx, not %016lx\n", name, input, got, right);
+}
+
+/* ---- numbers: a NaN pattern goes in */
+
+static void see_pattern(word w) {
+    double x = number(w);
+    see("one_nan", w, bits(one_nan(x)), ONE_NAN);
+    see("magnitude", w, bits(magnitude(x)), ONE_NAN);
+    see("smaller", w, bits(smaller(x, 1.0)), ONE_NAN);
+    see("smaller than 1", w, bits(smaller(1.0, x)), bits(1.0));
+    see("float_of", w, bits(float_of(w)), ONE_NAN);
+    see("bits_of", w, bits_of(x), ONE_NAN);
+    see("root", w, bits(root(x)), ONE_NAN);
+}
+
+/* NaN of both signs, quiet and signalling, with every single digit set, and with random ones. */
+static void see_patterns(void) {
+    word state = 1;
+    for (int sign = 0; sign < 2; sign++) {
+        word top = TOP | (sign ? SIGN : 0);
+        for (int digit = 0; digit < 52; digit++) see_pattern(top | 1UL << digit);
+        for (int i = 0; i < 100000; i++) {
+            state = state * 6364136223846793005UL + 1442695040888963407UL;
+            word low = state >> 12;
+            see_pattern(top | (low ? low : 1));
+        }
+    }
+    static const word below[] = { 0xbff0000000000000, 0x8010000000000000, 0x8000000000000001, 0xfff0000000000000, 0xffefffffffffffff };
+    for (int i = 0; i < 5; i++) see("root", below[i], bits(root(number(below[i]))), ONE_NAN);
+}
+
+/* ---- functions that make a NaN themselves */
+
+/* What it can come from: NaN of both signs and kinds, infinities, zeros, and numbers whose sums, products and quotients
+   overflow or vanish. */
+#define SOURCES 14
+static const word sources[SOURCES] = {
+    0x7ff8000000000000, 0xfff8000000000000, 0x7ff0000000000001, 0xfff40000deadbeef, 0x7ff0000000000000, 0xfff0000000000000,
+    0x0000000000000000, 0x8000000000000000, 0x3ff0000000000000, 0xbff0000000000000, 0x7fefffffffffffff, 0xffefffffffffffff,
+    0x0000000000000001, 0x8010000000000000,
+};
+
+enum { RATIO, DOT, DOT_ANY, NORM, NORM_ANY, WEIGHTED, PRODUCT, INVERSE, FUNCTIONS };
+static const char *const names[FUNCTIONS] = { "reduction_ratio", "dot", "dot_any", "norm", "norm_any", "weighted_dot", "product", "inverse" };
+static word found[FUNCTIONS];
+
+static void look(int f, double x) {
+    if (!nan_bits(bits(x))) return;
+    found[f]++;
+    see(names[f], 0, bits(x), ONE_NAN);
+}
+
+/* The k-th list of so many sources. */
+static void list(double *v, int length, word k) {
+    for (int i = 0; i < length; i++, k /= SOURCES) v[i] = number(sources[k % SOURCES]);
+}
+
+static void see_matrix(const double *h, word n) {
+    double out[4], scratch[24];
+    if (mboyaxin_inverse(n, h, n * n, out, n * n, scratch, 2 * n * n + 8 * n)) return;
+    for (word i = 0; i < n * n; i++) look(INVERSE, out[i]);
+}
+
+static void see_made(void) {
+    double v[4], d[2], out[2];
+    for (word k = 0; k < SOURCES * SOURCES * SOURCES * SOURCES; k++) {
+        list(v, 4, k);
+        look(RATIO, mboyaxin_reduction_ratio(v[0], v[1], v[2], v[3]));
+        look(DOT, mboyaxin_dot(2, v, 2, v + 2, 2));
+        look(DOT_ANY, mboyaxin_dot_any(v, 2, v + 2, 2));
+        look(DOT_ANY, mboyaxin_dot_any(v, 4, v + 2, 2));
+        look(NORM, mboyaxin_norm(4, v, 4));
+        look(NORM_ANY, mboyaxin_norm_any(v, 4));
+        see_matrix(v, 2);
+        for (word l = 0; l < SOURCES * SOURCES; l++) {
+            list(d, 2, l);
+            look(WEIGHTED, mboyaxin_weighted_dot(2, d, 2, v, 4, d, 2));
+            if (mboyaxin_product(2, v, 4, d, 2, out, 2) == 0)
+                for (int i = 0; i < 2; i++) look(PRODUCT, out[i]);
+        }
+    }
+    for (word k = 0; k < SOURCES; k++) {
+        list(v, 1, k);
+        see_matrix(v, 1);
+    }
+}
+
+int main(void) {
+    see_patterns();
+    see_made();
+    for (int f = 0; f < FUNCTIONS; f++) printf("%s: %lu NaN made\n", names[f], found[f]);
+    if (wrong) {
+        printf("%lu of %lu patterns are wrong\n", wrong, patterns);
+        return 1;
+    }
+    printf("%lu patterns read, each NaN is %016lx\n", patterns, ONE_NAN);
+    return 0;
+}
