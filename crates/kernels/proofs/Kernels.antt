@@ -2,15 +2,16 @@
 use mathlib.Core.Path.{_≡_, refl, sym, _∙_, ap}
 use mathlib.Core.Bool.{Bool, true, false, cond, not, _&&_}
 use mathlib.Core.List.{List, [], _∷_, _++_, append-nil}
-use Prim.Native.Nat.{ℕ, _+_, _*_, _-_, _≤_}
+use Prim.Native.Nat.{ℕ, zero, suc, _+_, _*_, _-_, _≤_}
 use native.Mathlib.Omega.{arith}
 use lib.Dec.{eqb, leb}
 use lib.ListN.{length, take, drop, length-drop, drop-of-length-le}
-use lib.Seq.{take-at, take-all}
+use lib.Seq.{take-at, drop-at, take-all}
 use lib.Ieee.{Float}
 use borrow.Rule.Slice.PartMut.{midOf, putMid}
 use borrow.Author.Tests.{eqb-true}
-use Rattle.vectors.specs.Vector.{zeros, all-finite}
+use Rattle.float.specs.Constants.{nought}
+use Rattle.vectors.specs.Vector.{tab, zeros, all-finite}
 use Rattle.vectors.specs.Slots.{slot, Puts}
 use Rattle.kernels.specs.Workspace.{each}
 use Rattle.vectors.specs.Refusal.{Answer, refused, given, Check, _if_, unless, judged, then, number, size, sized, room, Square, Roomy}
@@ -162,19 +163,30 @@ slot-laid : (v u : List Float) (n : ℕ) → length v ≡ n → slot (v ++ u) n 
 unfolding slot
 slot-laid v u n e = let none : 0 * n ≡ 0 = omega arith in rw none (take-at v u n e)
 
+zeros-join : (a b : ℕ) → zeros a ++ zeros b ≡ zeros (a + b)
+unfolding zeros tab
+zeros-join zero b = let e : 0 + b ≡ b = omega arith in rw e
+zeros-join (suc a) b = let e : suc a + b ≡ suc (a + b) = omega arith in rw e (ap (λ (u : List Float). nought ∷ u) (zeros-join a b))
+
+-- the step's place cleared, all is
+cleared-laid : (v : List Float) (n size : ℕ) → length v ≡ n → n ≤ size → zeros n ++ drop n (v ++ zeros (size - length v)) ≡ zeros size
+cleared-laid v n size e b =
+    let all : n + (size - n) ≡ size = omega arith in
+    rw (drop-at v (zeros (size - length v)) n e, e, zeros-join, all)
+
 -- from what a kernel laid out in w₁ and `hand_over` made of it
 module _ (n : ℕ) (found r : Stepped) (step step′ w w₁ w′ : List Float) (l : length w₁ ≡ length w)
-    (h : (r ≡ found) × (step′ ≡ handed-over found (slot w₁ n 0) step) × (w′ ≡ zeros (length w₁))) where
+    (b : n ≤ length w) (h : (r ≡ found) × (step′ ≡ handed-over found (slot w₁ n 0) step) × (w′ ≡ handed-over found (zeros n ++ drop n w₁) w₁)) where
   took-one : (a : Answer Made) → Proper n a → Laid a found w w₁ → Took a r step step′ w w′
   took-one (refused x) p laid = record {
     says = h .0 ∙ laid .says;
     leaves = h .1 ∙ ap (λ (s : Stepped). handed-over s (slot w₁ n 0) step) (laid .says);
-    clears = rw p (h .2 ∙ ap zeros l);
+    clears = h .2 ∙ ap (λ (s : Stepped). handed-over s (zeros n ++ drop n w₁) w₁) (laid .says) ∙ laid .lays;
   }
   took-one (given m) p laid = record {
     says = h .0 ∙ laid .says;
     leaves = h .1 ∙ ap (λ (s : Stepped). handed-over s (slot w₁ n 0) step) (laid .says) ∙ ap (λ (u : List Float). slot u n 0) (laid .lays) ∙ slot-laid (m .step) _ n p;
-    clears = h .2 ∙ ap zeros l;
+    clears = h .2 ∙ ap (λ (s : Stepped). handed-over s (zeros n ++ drop n w₁) w₁) (laid .says) ∙ ap (λ (u : List Float). zeros n ++ drop n u) (laid .lays) ∙ cleared-laid (m .step) n (length w) p b;
   }
 
   pub took : (settings : Bool) (kernel : Kernel) (radius : Float) (g H : List Float) (v : Verdict) → v ≡ judged (kernel-checks settings n radius g H step w) → v ≡ Passed

@@ -190,35 +190,35 @@ module _ (n : ℕ) (radius : Float) (w ts : List Float) (tau : Answer Float) (o 
   unfolding crossing
   forward-here f h = h ∙ rw (f, e)
 
-pub onward-here : (w w₁ w₂ w₃ w₄ : List Float) (n : ℕ) (rtr ss : Float) → ss ≡ dot (slot w n 5) (slot w n 5) → Puts w n 7 (scale n (slot w n 5) (neg one)) w₁
-    → Puts w₁ n 2 (ahead n (slot w₁ n 7) (slot w₁ n 2) (ss ⊘ rtr)) w₂ → Puts w₂ n 0 (slot w₂ n 4) w₃ → Puts w₃ n 1 (slot w₃ n 5) w₄
-    → goes-on (state-in w₄ n ss) ≡ goes-on (onward n (state-in w n rtr) (slot w n 4) (slot w n 5))
+pub onward-here : (w w₁ w₂ w₃ : List Float) (n : ℕ) (rtr ss : Float) → ss ≡ dot (slot w n 1) (slot w n 1) → Puts w n 7 (scale n (slot w n 1) (neg one)) w₁
+    → Puts w₁ n 2 (ahead n (slot w₁ n 7) (slot w₁ n 2) (ss ⊘ rtr)) w₂ → Puts w₂ n 0 (slot w₂ n 6) w₃
+    → goes-on (state-in w₃ n ss) ≡ goes-on (onward n (state-in w n rtr) (slot w n 6) (slot w n 1))
 unfolding onward
-onward-here w w₁ w₂ w₃ w₄ n rtr ss e a b c d = simp (d, c, b, a, e)
+onward-here w w₁ w₂ w₃ n rtr ss e a b c = simp (c, b, a, e)
 
--- q in slot 4
-module _ (w w₁ : List Float) (n : ℕ) (radius small rtr alpha nq : Float) (a : Puts w n 4 (ahead n (slot w n 0) (slot w n 2) alpha) w₁) (en : nq ≡ norm (slot w₁ n 4)) where
+-- q in slot 6
+module _ (w w₁ : List Float) (n : ℕ) (radius small rtr alpha nq : Float) (a : Puts w n 6 (ahead n (slot w n 0) (slot w n 2) alpha) w₁) (en : nq ≡ norm (slot w₁ n 6)) where
   abbrev all : Pass
   all = straight n radius small (state-in w n rtr) (slot w n 3) alpha
 
   is-q : nq ≡ norm (ahead n (slot w n 0) (slot w n 2) alpha)
-  is-q = en ∙ ap norm (a 4)
+  is-q = en ∙ ap norm (a 6)
 
   pub outside : (o : Pass) → le radius nq ≡ true → o ≡ crossing n radius (slot w₁ n 0) (slot w₁ n 2) → o ≡ all
   unfolding straight
   outside o t f = f ∙ rw (a 0, a 2, ← is-q, t)
 
-  -- s in slot 5
-  module _ (w₂ : List Float) (ns : Float) (t : le radius nq ≡ false) (b : Puts w₁ n 5 (ahead n (slot w₁ n 1) (slot w₁ n 3) alpha) w₂) (em : ns ≡ norm (slot w₂ n 5)) where
+  -- s in the place of r
+  module _ (w₂ : List Float) (ns : Float) (t : le radius nq ≡ false) (b : Puts w₁ n 1 (ahead n (slot w₁ n 1) (slot w₁ n 3) alpha) w₂) (em : ns ≡ norm (slot w₂ n 1)) where
     is-s : ns ≡ norm (ahead n (slot w n 1) (slot w n 3) alpha)
-    is-s = em ∙ ap norm (b 5 ∙ rw (a 1, a 3))
+    is-s = em ∙ ap norm (b 1 ∙ rw (a 1, a 3))
 
-    pub small-enough : (w₃ : List Float) → lt ns small ≡ true → Puts w₂ n 6 (slot w₂ n 4) w₃ → stops (given (slot w₃ n 6)) ≡ all
+    pub small-enough : lt ns small ≡ true → stops (given (slot w₂ n 6)) ≡ all
     unfolding straight
-    small-enough w₃ u c = rw (c 6, b 4, a 4, ← is-q, t, ← is-s, u)
+    small-enough u = rw (b 6, a 6, ← is-q, t, ← is-s, u)
 
-    pub not-yet : (o : Pass) → lt ns small ≡ false → o ≡ goes-on (onward n (state-in w₂ n rtr) (slot w₂ n 4) (slot w₂ n 5)) → o ≡ all
-    unfolding straight
+    pub not-yet : (o : Pass) → lt ns small ≡ false → o ≡ goes-on (onward n (state-in w₂ n rtr) (slot w₂ n 6) (slot w₂ n 1)) → o ≡ all
+    unfolding straight onward
     not-yet o u f = f ∙ rw (← is-q, t, ← is-s, u) (simp (b, a))
 
 -- H·d in slot 3

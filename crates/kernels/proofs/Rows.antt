@@ -77,17 +77,23 @@ swaps w w₁ w₂ w₃ n j p r hj hp a b c =
     let other : slot w₁ m (4 + p) ≡ slot w m (4 + p) = a (4 + p) ∙ rw (row-not-spare p) in
     rows-put w₂ w₃ n p _ c ∙ rw (held, same j hj, rows-put w₁ w₂ n j _ b, other, same p hp, rows-spare w w₁ n _ a)
 
-pub divides : (w w₁ : List Float) (n j : ℕ) (x : Float) → x ≡ entry (rows-in w n) j j
-    → Puts w (n + n) (4 + j) (each (n + n) (Over x) (slot w (n + n) (4 + j)) (slot w (n + n) (4 + j))) w₁
-    → rows-in w₁ n ≡ divided n (rows-in w n) j
+pub divides : (w w₁ w₂ : List Float) (n j : ℕ) (x : Float) → Roomy n (length w₁) → x ≡ entry (rows-in w n) j j
+    → Puts w (n + n) 0 (each (n + n) (Over x) (slot w (n + n) (4 + j)) (slot w (n + n) (4 + j))) w₁
+    → Puts w₁ (n + n) (4 + j) (each (n + n) Same (slot w₁ (n + n) 0) (slot w₁ (n + n) 0)) w₂
+    → (rows-in w₂ n ≡ divided n (rows-in w n) j) × (slot w₂ (n + n) 0 ≡ rows-in w₂ n j)
 unfolding divided
-divides w w₁ n j x e a = rows-put w w₁ n j _ a ∙ rw (each-over, e)
+divides w w₁ w₂ n j x r e a b =
+    let m = n + n in
+    let same : each m Same (slot w₁ m 0) (slot w₁ m 0) ≡ slot w₁ m 0 = each-same m (slot w₁ m 0) (slot w₁ m 0) (length-slot w₁ m 0 (spare-room r)) in
+    let there : slot w₂ m (4 + j) ≡ slot w₁ m 0 = b (4 + j) ∙ rw (eq-eqb (4 + j) (4 + j) refl) same in
+    let spare : slot w₂ m 0 ≡ slot w₁ m 0 = b 0 ∙ rw (spare-not-row j) in
+    (rows-put w₁ w₂ n j _ b ∙ rw (same, a 0, rows-spare w w₁ n _ a, each-over, e), spare ∙ sym there)
 
-pub clears : (w w₁ : List Float) (n j i : ℕ) (x : Float) → x ≡ entry (rows-in w n) i j
-    → Puts w (n + n) (4 + i) (each (n + n) (LessTimes x) (slot w (n + n) (4 + i)) (slot w (n + n) (4 + j))) w₁
-    → rows-in w₁ n ≡ cleared-row n (rows-in w n) j i
+pub clears : (w w₁ : List Float) (n j i : ℕ) (x : Float) → x ≡ entry (rows-in w n) i j → slot w (n + n) 0 ≡ rows-in w n j
+    → Puts w (n + n) (4 + i) (each (n + n) (LessTimes x) (slot w (n + n) (4 + i)) (slot w (n + n) 0)) w₁
+    → (rows-in w₁ n ≡ cleared-row n (rows-in w n) j i) × (slot w₁ (n + n) 0 ≡ slot w (n + n) 0)
 unfolding cleared-row
-clears w w₁ n j i x e a = rows-put w w₁ n i _ a ∙ rw (each-less-times, e)
+clears w w₁ n j i x e s a = (rows-put w w₁ n i _ a ∙ rw (s, each-less-times, e), a 0 ∙ rw (spare-not-row i))
 
 -- ---- a loop that writes slots b, b + 1 ..
 
@@ -168,6 +174,20 @@ module _ (n j i : ℕ) (R S : Rows) (inv : S ≡ cleared n R j i) where
   pub cleared-none : i ≡ j → S ≡ cleared n R j (i + 1)
   unfolding cleared
   cleared-none e = inv ∙ rw (add-one, eq-eqb i j e)
+
+-- row j stays as it was
+cleared-keeps : (n j i : ℕ) (R : Rows) → cleared n R j i j ≡ R j
+unfolding cleared cleared-row
+cleared-keeps n j zero R = refl
+cleared-keeps n j (suc i) R = pick (eqb i j) refl ∙ cleared-keeps n j i R where
+  pick : (b : Bool) → eqb i j ≡ b → cond b (cleared n R j i) (cleared-row n (cleared n R j i) j i) j ≡ cleared n R j i j
+  pick true e = refl
+  pick false e = rw (ne-eqb j i (λ z. eqb-false i j e (sym z)))
+
+-- and so does what was read apart from the rows
+pub still-apart : (w w₀ : List Float) (n j i : ℕ) → slot w₀ (n + n) 0 ≡ rows-in w₀ n j → rows-in w n ≡ cleared n (rows-in w₀ n) j i
+    → slot w (n + n) 0 ≡ slot w₀ (n + n) 0 → slot w (n + n) 0 ≡ rows-in w n j
+still-apart w w₀ n j i e inv s = s ∙ e ∙ sym (ap (λ (S : Rows). S j) inv ∙ cleared-keeps n j i (rows-in w₀ n))
 
 -- ---- what a flag that the code tests says of the rows that were left
 

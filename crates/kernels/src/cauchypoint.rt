@@ -6,6 +6,7 @@ use crate::kernel::Stepped;
 use crate::workspace;
 use crate::workspace::Op;
 use vectors::refusal::Verdict;
+use vectors::vector;
 ghost use mathlib.Core.Path.{_≡_};
 ghost use mathlib.Core.Bool.{true};
 ghost use lib.ListN.{length};
@@ -36,7 +37,7 @@ pub(crate) fn lay(n: usize, radius: f64, g: &[f64], h: &[f64], w: &mut [f64]) ->
     ensures { λ r. ⌜ Laid (CauchyPoint.cauchy-point n radius (now (g .entry)) (now (h .entry))) r (now (w .entry)) (now (w .exit)) ⌝ }
 {
     let curvature = inner::weighted_unchecked(n, g, h, g);
-    let norm = inner::norm_unchecked(g);
+    let norm = vector::norm_any(g);
     workspace::put(n, w, 0, g);
     workspace::each(n, w, 0, Op::Times(factor(radius, curvature, norm)), 0, 0);
     kernel::settle(n, w, 0, 0)
@@ -54,7 +55,15 @@ pub fn cauchy_point(
     ensures { λ r. ⌜ Took (called true CauchyPoint.cauchy-point n radius (now (gradient .entry)) (now (hessian .entry)) (now (step .entry)) (now (scratch .entry)))
         r (now (step .entry)) (now (step .exit)) (now (scratch .entry)) (now (scratch .exit)) ⌝ }
 {
-    let verdict = kernel::checked(true, n, radius, gradient, hessian, step, scratch);
+    let verdict = kernel::checked(
+        true,
+        n,
+        radius,
+        gradient,
+        hessian,
+        step.len(),
+        scratch.len(),
+    );
     match verdict {
         Verdict::Failed(r) => Stepped::Refused(r),
         Verdict::Passed => {

@@ -8,6 +8,7 @@ use crate::workspace;
 use crate::workspace::Op;
 use vectors::refusal::Refusal;
 use vectors::refusal::Verdict;
+use vectors::vector;
 ghost use mathlib.Core.Path.{_≡_};
 ghost use mathlib.Core.Bool.{true};
 ghost use Prim.Native.Nat.{_*_, _≤_};
@@ -72,7 +73,7 @@ fn unconstrained(n: usize, w: &mut [f64], g: &[f64], h: &[f64])
     ensures { λ _. ⌜ (slot (now (w .exit)) n 1 ≡ Dogleg.unconstrained n (now (g .entry)) (now (h .entry))) × (slot (now (w .exit)) n 0 ≡ slot (now (w .entry)) n 0) ⌝ }
 {
     workspace::put(n, w, 1, g);
-    let factor = -inner::dot_unchecked(g, g) / inner::weighted_unchecked(n, g, h, g);
+    let factor = -vector::dot_any(g, g) / inner::weighted_unchecked(n, g, h, g);
     workspace::each(n, w, 1, Op::Times(factor), 1, 1);
 }
 
@@ -118,7 +119,15 @@ pub fn dogleg(
     ensures { λ r. ⌜ Took (called true Dogleg.dogleg n radius (now (gradient .entry)) (now (hessian .entry)) (now (step .entry)) (now (scratch .entry)))
         r (now (step .entry)) (now (step .exit)) (now (scratch .entry)) (now (scratch .exit)) ⌝ }
 {
-    let verdict = kernel::checked(true, n, radius, gradient, hessian, step, scratch);
+    let verdict = kernel::checked(
+        true,
+        n,
+        radius,
+        gradient,
+        hessian,
+        step.len(),
+        scratch.len(),
+    );
     match verdict {
         Verdict::Failed(r) => Stepped::Refused(r),
         Verdict::Passed => {

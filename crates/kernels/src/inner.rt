@@ -8,19 +8,6 @@ ghost use lib.ListN.{length};
 ghost use Rattle.vectors.specs.Vector as Vector;
 ghost use Rattle.vectors.specs.Refusal.{Square};
 
-pub(crate) fn dot_unchecked(a: &[f64], b: &[f64]) -> f64
-    requires { ⌜ length (now a) ≡ length (now b) ⌝ }
-    ensures { λ r. ⌜ r ≡ Vector.dot (now (a .entry)) (now (b .entry)) ⌝ }
-{
-    vector::dot_any(a, b)
-}
-
-pub(crate) fn norm_unchecked(a: &[f64]) -> f64
-    ensures { λ r. ⌜ r ≡ Vector.norm (now (a .entry)) ⌝ }
-{
-    vector::norm_any(a)
-}
-
 // Number i of H·d.
 pub(crate) fn row_dot(n: usize, h: &[f64], i: usize, d: &[f64]) -> f64
     requires { ⌜ Square n (length (now h)) × (i < n) × (length (now d) ≡ n) ⌝ }

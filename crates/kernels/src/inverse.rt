@@ -1,18 +1,18 @@
 // Gauss-Jordan on [H | I]. Row i is slot 4 + i of width 2·n of the scratch w, so that its slots 0 to 7 of
 // width n are free.
-use crate::inner;
 use crate::workspace;
 use crate::workspace::Op;
 use vectors::refusal;
 use vectors::refusal::Outcome;
 use vectors::refusal::Refusal;
+use vectors::vector;
 ghost use mathlib.Core.Path.{_≡_};
 ghost use mathlib.Core.Bool.{_&&_};
 ghost use Prim.Native.Nat.{_+_, _*_, _<_, _≤_};
 ghost use lib.Dec.{eqb};
 ghost use lib.ListN.{length};
 ghost use Rattle.vectors.specs.Vector.{tab, flat};
-ghost use Rattle.vectors.specs.Slots.{Puts};
+ghost use Rattle.vectors.specs.Slots.{slot, Puts};
 ghost use Rattle.vectors.specs.Refusal.{size, room, Roomy, Ended};
 ghost use Rattle.kernels.specs.Inverse as Inverse;
 
@@ -102,24 +102,30 @@ fn swap_rows(n: usize, w: &mut [f64], j: usize, p: usize)
     workspace::each(width, w, b, Op::Same, 0, 0);
 }
 
+// Row j over its pivot. It stays in the scratch's first numbers too.
 fn divide_row(n: usize, w: &mut [f64], j: usize)
     requires { ⌜ Roomy n (length (now w)) × (j < n) ⌝ }
-    ensures { λ _. ⌜ Inverse.rows-in (now (w .exit)) n ≡ Inverse.divided n (Inverse.rows-in (now (w .entry)) n) j ⌝ }
+    ensures { λ _. ⌜ (Inverse.rows-in (now (w .exit)) n ≡ Inverse.divided n (Inverse.rows-in (now (w .entry)) n) j)
+        × (slot (now (w .exit)) (n + n) 0 ≡ Inverse.rows-in (now (w .exit)) n j) ⌝ }
 {
     let pivot = entry(n, w, j, j);
-    workspace::each(n + n, w, 4 + j, Op::Over(pivot), 4 + j, 4 + j);
+    workspace::each(n + n, w, 0, Op::Over(pivot), 4 + j, 4 + j);
+    workspace::each(n + n, w, 4 + j, Op::Same, 0, 0);
 }
 
+// Row j is read from the scratch's first numbers, apart from the rows that change: with it among them the
+// machine would take one number at a time.
 fn clear_row(n: usize, w: &mut [f64], j: usize, i: usize)
-    requires { ⌜ Roomy n (length (now w)) × (j < n) × (i < n) ⌝ }
-    ensures { λ _. ⌜ Inverse.rows-in (now (w .exit)) n ≡ Inverse.cleared-row n (Inverse.rows-in (now (w .entry)) n) j i ⌝ }
+    requires { ⌜ Roomy n (length (now w)) × (j < n) × (i < n) × (slot (now w) (n + n) 0 ≡ Inverse.rows-in (now w) n j) ⌝ }
+    ensures { λ _. ⌜ (Inverse.rows-in (now (w .exit)) n ≡ Inverse.cleared-row n (Inverse.rows-in (now (w .entry)) n) j i)
+        × (slot (now (w .exit)) (n + n) 0 ≡ slot (now (w .entry)) (n + n) 0) ⌝ }
 {
     let x = entry(n, w, i, j);
-    workspace::each(n + n, w, 4 + i, Op::LessTimes(x), 4 + i, 4 + j);
+    workspace::update(n + n, w, 4 + i, Op::LessTimes(x), 0);
 }
 
 fn clear_rows(n: usize, w: &mut [f64], j: usize)
-    requires { ⌜ Roomy n (length (now w)) × (j < n) ⌝ }
+    requires { ⌜ Roomy n (length (now w)) × (j < n) × (slot (now w) (n + n) 0 ≡ Inverse.rows-in (now w) n j) ⌝ }
     ensures { λ _. ⌜ Inverse.rows-in (now (w .exit)) n ≡ Inverse.cleared n (Inverse.rows-in (now (w .entry)) n) j n ⌝ }
 {
     let mut i = 0;
@@ -187,7 +193,7 @@ pub(crate) fn inverse_times(n: usize, w: &mut [f64], to: usize, g: &[f64])
     let first = to * n;
     let mut i = 0;
     while i < n {
-        let x = inner::dot_unchecked(right_row(n, w, i), g);
+        let x = vector::dot_any(right_row(n, w, i), g);
         w[first + i] = x;
         i += 1;
     }
@@ -225,7 +231,7 @@ pub fn inverse(n: usize, h: &[f64], out: &mut [f64], scratch: &mut [f64]) -> Out
     if !sized(n, h.len(), out.len(), scratch.len()) {
         return Outcome::Refused(Refusal::Size);
     }
-    if !vectors::vector::all_finite(h) {
+    if !vector::all_finite(h) {
         return Outcome::Refused(Refusal::Entry);
     }
     if !eliminate(n, scratch, h) {

@@ -1,15 +1,17 @@
 // What the three kernels share: the checks before them, and the end of each.
-use crate::inner;
 use crate::workspace;
 use crate::workspace::Op;
 use vectors::refusal;
 use vectors::refusal::Refusal;
 use vectors::refusal::Verdict;
+use vectors::vector;
 ghost use mathlib.Core.Path.{_≡_};
 ghost use mathlib.Core.Bool.{_&&_};
+ghost use mathlib.Core.List.{List, _++_};
 ghost use Prim.Native.Nat.{_+_, _*_, _≤_};
 ghost use lib.Dec.{eqb};
-ghost use lib.ListN.{length};
+ghost use lib.ListN.{length, drop};
+ghost use lib.Ieee.{Float};
 ghost use Rattle.vectors.specs.Vector.{zeros, all-finite};
 ghost use Rattle.vectors.specs.Slots.{slot};
 ghost use Rattle.vectors.specs.Refusal.{size, room, judged};
@@ -36,10 +38,10 @@ pub(crate) fn positive(x: f64) -> bool
 pub(crate) fn sound_step(v: &[f64]) -> bool
     ensures { λ r. ⌜ r ≡ Kernel.sound-step (now (v .entry)) ⌝ }
 {
-    if !vectors::vector::all_finite(v) {
+    if !vector::all_finite(v) {
         return false;
     }
-    float::finite(inner::norm_unchecked(v))
+    float::finite(vector::norm_any(v))
 }
 
 // The lengths of a kernel's matrix, gradient, step and scratch.
@@ -66,25 +68,25 @@ fn settings_right(radius: f64, settings: bool) -> bool
 fn entries_finite(g: &[f64], h: &[f64]) -> bool
     ensures { λ r. ⌜ r ≡ (all-finite (now (g .entry)) && all-finite (now (h .entry))) ⌝ }
 {
-    if !vectors::vector::all_finite(g) {
+    if !vector::all_finite(g) {
         return false;
     }
-    vectors::vector::all_finite(h)
+    vector::all_finite(h)
 }
 
-// The checks before a kernel that is called directly.
+// The checks before a kernel that is called directly; of the step and the scratch only the lengths count.
 pub(crate) fn checked(
     settings: bool,
     n: usize,
     radius: f64,
     g: &[f64],
     h: &[f64],
-    step: &[f64],
-    scratch: &[f64],
+    step: usize,
+    scratch: usize,
 ) -> Verdict
-    ensures { λ r. ⌜ r ≡ judged (kernel-checks settings n radius (now (g .entry)) (now (h .entry)) (now (step .entry)) (now (scratch .entry))) ⌝ }
+    ensures { λ r. ⌜ ((s w : List Float) → length s ≡ step → length w ≡ scratch → r ≡ judged (kernel-checks settings n radius (now (g .entry)) (now (h .entry)) s w)) ⌝ }
 {
-    if !sized(n, h.len(), g.len(), step.len(), scratch.len()) {
+    if !sized(n, h.len(), g.len(), step, scratch) {
         return Verdict::Failed(Refusal::Size);
     }
     if !settings_right(radius, settings) {
@@ -110,21 +112,19 @@ pub(crate) fn settle(n: usize, w: &mut [f64], k: usize, passes: u64) -> Stepped
     Stepped::In(passes)
 }
 
-// What a session's kernel laid out in w, handed to a direct caller: the step is copied, w is cleared.
+// What a session's kernel laid out in w, handed to a direct caller: the step is copied, and its place in
+// w cleared. Behind it w is +0 already.
 pub(crate) fn hand_over(n: usize, found: Stepped, step: &mut [f64], w: &mut [f64]) -> Stepped
     requires { ⌜ (length (now step) ≡ n) × (n ≤ length (now w)) ⌝ }
     ensures { λ r. ⌜ (r ≡ found) × (now (step .exit) ≡ handed-over found (slot (now (w .entry)) n 0) (now (step .entry)))
-        × (now (w .exit) ≡ zeros (length (now (w .entry)))) ⌝ }
+        × (now (w .exit) ≡ handed-over found (zeros n ++ drop n (now (w .entry))) (now (w .entry))) ⌝ }
 {
     match found {
         Stepped::In(passes) => {
             workspace::put(n, step, 0, workspace::part(n, w, 0));
-            workspace::clear(w);
+            workspace::clear(&mut w[..n]);
             Stepped::In(passes)
         }
-        Stepped::Refused(r) => {
-            workspace::clear(w);
-            Stepped::Refused(r)
-        }
+        Stepped::Refused(r) => Stepped::Refused(r),
     }
 }

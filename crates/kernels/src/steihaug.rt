@@ -1,7 +1,7 @@
 // Steihaug: conjugate gradients as far as the radius
 // (Nocedal and Wright, Numerical Optimization, section 7.1).
-// In the scratch w, p is slot 0, r slot 1, d slot 2, H·d slot 3, q slot 4, s slot 5, and the point that
-// was chosen slot 6.
+// In the scratch w, p is slot 0, r and then s slot 1, d slot 2, H·d slot 3, and q, or the point that was
+// chosen, slot 6.
 use crate::inner;
 use crate::kernel;
 use crate::kernel::Stepped;
@@ -9,6 +9,7 @@ use crate::workspace;
 use crate::workspace::Op;
 use vectors::refusal::Refusal;
 use vectors::refusal::Verdict;
+use vectors::vector;
 use vectors::vector::Number;
 ghost use mathlib.Core.Path.{_≡_};
 ghost use mathlib.Core.Bool.{_&&_};
@@ -79,7 +80,7 @@ fn model(n: usize, w: &[f64], g: &[f64], h: &[f64]) -> f64
     ensures { λ r. ⌜ r ≡ Steihaug.model n (now (g .entry)) (now (h .entry)) (slot (now (w .entry)) n 6) ⌝ }
 {
     let x = workspace::part(n, w, 6);
-    inner::dot_unchecked(g, x) + 0.5 * inner::weighted_unchecked(n, x, h, x)
+    vector::dot_any(g, x) + 0.5 * inner::weighted_unchecked(n, x, h, x)
 }
 
 fn value(n: usize, w: &mut [f64], tau: f64, g: &[f64], h: &[f64]) -> Valued
@@ -209,14 +210,13 @@ fn crossing(n: usize, w: &mut [f64], radius: f64) -> Turn
 fn onward(n: usize, w: &mut [f64], rtr: f64) -> Turn
     requires { ⌜ 8 * n ≤ length (now w) ⌝ }
     ensures { λ r. ⌜ passed r n (now (w .exit))
-        ≡ Steihaug.goes-on (Steihaug.onward n (state-in (now (w .entry)) n rtr) (slot (now (w .entry)) n 4) (slot (now (w .entry)) n 5)) ⌝ }
+        ≡ Steihaug.goes-on (Steihaug.onward n (state-in (now (w .entry)) n rtr) (slot (now (w .entry)) n 6) (slot (now (w .entry)) n 1)) ⌝ }
 {
-    let ss = workspace::dot(n, w, 5, 5);
+    let ss = workspace::dot(n, w, 1, 1);
     let beta = ss / rtr;
-    workspace::each(n, w, 7, Op::Times(-1.0), 5, 5);
+    workspace::each(n, w, 7, Op::Times(-1.0), 1, 1);
     workspace::each(n, w, 2, Op::PlusTimes(beta), 7, 2);
-    workspace::each(n, w, 0, Op::Same, 4, 4);
-    workspace::each(n, w, 1, Op::Same, 5, 5);
+    workspace::each(n, w, 0, Op::Same, 6, 6);
     Turn::WentOn(ss)
 }
 
@@ -225,14 +225,13 @@ fn straight(n: usize, w: &mut [f64], radius: f64, small: f64, rtr: f64, alpha: f
     requires { ⌜ 8 * n ≤ length (now w) ⌝ }
     ensures { λ r. ⌜ passed r n (now (w .exit)) ≡ Steihaug.straight n radius small (state-in (now (w .entry)) n rtr) (slot (now (w .entry)) n 3) alpha ⌝ }
 {
-    workspace::each(n, w, 4, Op::PlusTimes(alpha), 0, 2);
+    workspace::each(n, w, 6, Op::PlusTimes(alpha), 0, 2);
     // equality is already outside
-    if workspace::norm(n, w, 4) >= radius {
+    if workspace::norm(n, w, 6) >= radius {
         return crossing(n, w, radius);
     }
-    workspace::each(n, w, 5, Op::PlusTimes(alpha), 1, 3);
-    if workspace::norm(n, w, 5) < small {
-        workspace::each(n, w, 6, Op::Same, 4, 4);
+    workspace::update(n, w, 1, Op::PlusTimes(alpha), 3);
+    if workspace::norm(n, w, 1) < small {
         return Turn::Stopped;
     }
     onward(n, w, rtr)
@@ -293,7 +292,7 @@ fn start(n: usize, w: &mut [f64], g: &[f64]) -> f64
     workspace::clear(&mut w[..n]);
     workspace::put(n, w, 1, g);
     workspace::each(n, w, 2, Op::Times(-1.0), 1, 1);
-    inner::dot_unchecked(g, g)
+    vector::dot_any(g, g)
 }
 
 // The kernel for a session, which has made its own checks.
@@ -309,7 +308,7 @@ pub(crate) fn lay(
     requires { ⌜ Square n (length (now h)) × (length (now g) ≡ n) × Roomy n (length (now w)) ⌝ }
     ensures { λ r. ⌜ Laid (Steihaug.steihaug epsilon limit n radius (now (g .entry)) (now (h .entry))) r (now (w .entry)) (now (w .exit)) ⌝ }
 {
-    let norm = inner::norm_unchecked(g);
+    let norm = vector::norm_any(g);
     let rtr = start(n, w, g);
     if norm < epsilon {
         return kernel::settle(n, w, 0, 0);
@@ -353,8 +352,8 @@ pub fn steihaug(
         radius,
         gradient,
         hessian,
-        step,
-        scratch,
+        step.len(),
+        scratch.len(),
     );
     match verdict {
         Verdict::Failed(r) => Stepped::Refused(r),

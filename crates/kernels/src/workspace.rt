@@ -1,5 +1,6 @@
 // Vectors of n numbers in the lent scratch w. Slot k is its k-th run of n numbers.
 use crate::inner;
+use vectors::vector;
 ghost use mathlib.Core.Path.{_≡_};
 ghost use mathlib.Core.Bool.{false};
 ghost use Prim.Native.Nat.{_+_, _*_, _≤_};
@@ -48,6 +49,22 @@ pub(crate) fn each(n: usize, w: &mut [f64], to: usize, op: Op, x: usize, y: usiz
     }
 }
 
+// Slot to takes op of itself and slot y. With one place less to read the machine can take several
+// numbers at a time.
+pub(crate) fn update(n: usize, w: &mut [f64], to: usize, op: Op, y: usize)
+    requires { ⌜ (to * n + n ≤ length (now w)) × (y * n + n ≤ length (now w)) ⌝ }
+    ensures { λ _. ⌜ Puts (now (w .entry)) n to (Workspace.each n op (slot (now (w .entry)) n to) (slot (now (w .entry)) n y)) (now (w .exit)) ⌝ }
+{
+    let start = to * n;
+    let by = y * n;
+    let mut i = 0;
+    while i < n {
+        let at = start + i;
+        w[at] = apply(op, w[at], w[by + i]);
+        i += 1;
+    }
+}
+
 // Slot k, as that part of w.
 pub(crate) fn part(n: usize, w: &[f64], k: usize) -> &[f64]
     requires { ⌜ k * n + n ≤ length (now w) ⌝ }
@@ -89,15 +106,7 @@ pub(crate) fn dot(n: usize, w: &[f64], x: usize, y: usize) -> f64
     requires { ⌜ (x * n + n ≤ length (now w)) × (y * n + n ≤ length (now w)) ⌝ }
     ensures { λ r. ⌜ r ≡ Vector.dot (slot (now (w .entry)) n x) (slot (now (w .entry)) n y) ⌝ }
 {
-    inner::dot_unchecked(part(n, w, x), part(n, w, y))
-}
-
-// The dot of slot x and v.
-pub(crate) fn dot_with(n: usize, w: &[f64], x: usize, v: &[f64]) -> f64
-    requires { ⌜ (x * n + n ≤ length (now w)) × (length (now v) ≡ n) ⌝ }
-    ensures { λ r. ⌜ r ≡ Vector.dot (slot (now (w .entry)) n x) (now (v .entry)) ⌝ }
-{
-    inner::dot_unchecked(part(n, w, x), v)
+    vector::dot_any(part(n, w, x), part(n, w, y))
 }
 
 // The norm of slot x.
@@ -105,7 +114,7 @@ pub(crate) fn norm(n: usize, w: &[f64], x: usize) -> f64
     requires { ⌜ x * n + n ≤ length (now w) ⌝ }
     ensures { λ r. ⌜ r ≡ Vector.norm (slot (now (w .entry)) n x) ⌝ }
 {
-    inner::norm_unchecked(part(n, w, x))
+    vector::norm_any(part(n, w, x))
 }
 
 // +0 throughout.

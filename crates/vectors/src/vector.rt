@@ -3,6 +3,7 @@ use crate::refusal;
 use crate::refusal::Outcome;
 use crate::refusal::Refusal;
 ghost use mathlib.Core.Path.{_≡_};
+ghost use mathlib.Core.Bool.{_&&_};
 ghost use Prim.Native.Nat.{_<_};
 ghost use lib.ListN.{length};
 ghost use Rattle.vectors.specs.Vector as Vector;
@@ -15,18 +16,27 @@ pub enum Number {
     Refused(Refusal),
 }
 
-// No entry is a NaN or an infinity.
+fn both(a: bool, b: bool) -> bool
+    ensures { λ r. ⌜ r ≡ (a && b) ⌝ }
+{
+    if a {
+        return b;
+    }
+    false
+}
+
+// No entry is a NaN or an infinity. The loop runs to the end of v whatever it meets, so that the machine
+// can take several entries at a time.
 pub fn all_finite(v: &[f64]) -> bool
     ensures { λ r. ⌜ r ≡ Vector.all-finite (now (v .entry)) ⌝ }
 {
+    let mut all = true;
     let mut i = 0;
     while i < v.len() {
-        if !float::finite(v[i]) {
-            return false;
-        }
+        all = both(all, float::finite(v[i]));
         i += 1;
     }
-    true
+    all
 }
 
 // Row i, as that part of the caller's own matrix.

@@ -11,7 +11,7 @@ returns c =
     let scaled = settled .before .before .before .before in
     let put = scaled .before .before .before .before .before in
     let norm = put .before .before in
-    cauchy-laid _ _ _ _ _ _ _ _ _ _ _ _ (norm .before .weighted-unchecked .ensures) (norm .norm-unchecked .ensures) (scaled .before .factor .ensures) (put .put .ensures) (scaled .each .ensures)
+    cauchy-laid _ _ _ _ _ _ _ _ _ _ _ _ (norm .before .weighted-unchecked .ensures) (norm .norm-any .ensures) (scaled .before .factor .ensures) (put .put .ensures) (scaled .each .ensures)
     (scaled .each .kept .1 .0 ∙ put .put .kept .1 .0) (settled .settle .ensures)
 
 pub lay-spec : {M : Type 1} → statement M

@@ -8,7 +8,7 @@ returns : tie.Need-returns
 returns c =
     let scaled = c .before .before in
     let weighted = scaled .before .before in
-    unconstraineds _ _ _ _ _ _ _ _ (weighted .before .before .before .before .put .ensures) (weighted .before .dot-unchecked .ensures) (weighted .weighted-unchecked .ensures) (scaled .each .ensures)
+    unconstraineds _ _ _ _ _ _ _ _ (weighted .before .before .before .before .put .ensures) (weighted .before .dot-any .ensures) (weighted .weighted-unchecked .ensures) (scaled .each .ensures)
 
 pub unconstrained-spec : {M : Type 1} → statement M
 unconstrained-spec =

@@ -12,7 +12,7 @@ returns-2 c =
     let swapped = divided .before .before .before .before in
     let pivot = swapped .before .before .before in
     column-done _ _ _ _ _ (pivot .before .before .before .pivot-row .ensures .0) (pivot .before .entry .ensures) _ _ _ (sym (pivot .no-pivot .ensures) ∙ swapped .before .before .if1 .left)
-    (swapped .swap-rows .ensures) (divided .divide-row .ensures) (cleared .clear-rows .ensures)
+    (swapped .swap-rows .ensures) (divided .divide-row .ensures .0) (cleared .clear-rows .ensures)
 
 pub column-spec : {M : Type 1} → statement M
 column-spec =
@@ -27,6 +27,6 @@ column-spec =
     (λ c κs.
     let divided = c .before .before .before in
     let swapped = divided .before .before .before .before in
-    (roomy-same (roomy-same (swapped .before .before .before .before .before .before .before .before .before .pre .0) (swapped .swap-rows .kept .1 .0)) (divided .divide-row .kept .1 .0), search needs))
+    (roomy-same (roomy-same (swapped .before .before .before .before .before .before .before .before .before .pre .0) (swapped .swap-rows .kept .1 .0)) (divided .divide-row .kept .1 .0), search needs, divided .divide-row .ensures .1))
     (λ c. search needs)
     returns-2)

@@ -1,5 +1,5 @@
 -- `kernels::inverse::inverse_times` meets its contract. The loop's invariant: the first i numbers of the product are there. Assumes nothing.
-use mathlib.Core.Path.{_∙_, sym}
+use mathlib.Core.Path.{_∙_}
 use Prim.Native.Nat.{_-_}
 use native.Mathlib.Omega.{arith}
 use borrow.Author.Needs.{needs}
@@ -19,7 +19,7 @@ loop-again : tie.Need-loop-again Inv-loop μ-loop
 loop-again c =
     let inv = c .before .before .before .before .loop .inv in
     let s = c .before .before .before .before .before .before .before in
-    writing-more inv (c .before .before .before .loop-test .taken) (c .dot-unchecked .ensures ∙ rw (c .before .right-row .ensures .0, low-writing (s .pre .1) inv))
+    writing-more inv (c .before .before .before .loop-test .taken) (c .dot-any .ensures ∙ rw (c .before .right-row .ensures .0, low-writing (s .pre .1) inv))
 
 pub inverse-times-spec : {M : Type 1} → statement M
 unfolding inverse-times
@@ -29,7 +29,7 @@ inverse-times-spec =
     (λ c. omega (arith, low-room (c .before .before .pre .0) (c .before .before .args .to) (c .before .before .pre .1)))
     (λ c. writing-none (low-room (c .before .before .pre .0) (c .before .before .args .to) (c .before .before .pre .1)))
     (λ c κs. (roomy-same (c .before .before .before .before .before .pre .0) (c .before .before .loop .inv .long), c .before .loop-test .taken))
-    (λ c κs. c .right-row .ensures .1 ∙ sym (c .before .before .before .before .before .before .pre .2))
+    (λ c κs. search needs)
     (λ c. search needs) (λ c. search needs) (λ c. search needs) (λ c. search needs) (λ c. search needs)
     loop-again
     (λ c. search needs)

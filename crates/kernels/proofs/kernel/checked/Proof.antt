@@ -9,15 +9,15 @@ checked-spec =
     tie.close
     (tie.spec
     (λ c κs. search needs)
-    (λ c. rw (failed (c .before .sized .ensures) (c .if1 .taken)))
+    (λ c s w e f. rw (e, f, failed (c .before .sized .ensures) (c .if1 .taken)))
     (λ c κs. search needs)
-    (λ c. let sizes = c .before .before in rw (passed (sizes .before .sized .ensures) (sizes .if1 .left), failed (c .before .settings-right .ensures) (c .if2 .taken)))
+    (λ c s w e f. let sizes = c .before .before in rw (e, f, passed (sizes .before .sized .ensures) (sizes .if1 .left), failed (c .before .settings-right .ensures) (c .if2 .taken)))
     (λ c κs. search needs)
-    (λ c.
+    (λ c s w e f.
     let settings = c .before .before in
     let sizes = settings .before .before in
-    rw (passed (sizes .before .sized .ensures) (sizes .if1 .left), passed (settings .before .settings-right .ensures) (settings .if2 .left), failed (c .before .entries-finite .ensures) (c .if3 .taken)))
-    (λ c.
+    rw (e, f, passed (sizes .before .sized .ensures) (sizes .if1 .left), passed (settings .before .settings-right .ensures) (settings .if2 .left), failed (c .before .entries-finite .ensures) (c .if3 .taken)))
+    (λ c s w e f.
     let settings = c .before .before in
     let sizes = settings .before .before in
-    rw (passed (sizes .before .sized .ensures) (sizes .if1 .left), passed (settings .before .settings-right .ensures) (settings .if2 .left), passed (c .before .entries-finite .ensures) (c .if3 .left))))
+    rw (e, f, passed (sizes .before .sized .ensures) (sizes .if1 .left), passed (settings .before .settings-right .ensures) (settings .if2 .left), passed (c .before .entries-finite .ensures) (c .if3 .left))))

@@ -13,7 +13,7 @@ returns c = simp (failed (c .before .all-finite .ensures) (c .if1 .taken))
 
 returns-2 : tie.Need-returns-2
 unfolding sound-step
-returns-2 c = simp (passed (c .before .before .before .all-finite .ensures) (c .before .before .if1 .left)) (c .finite .ensures ∙ ap finite (c .before .norm-unchecked .ensures))
+returns-2 c = simp (passed (c .before .before .before .all-finite .ensures) (c .before .before .if1 .left)) (c .finite .ensures ∙ ap finite (c .before .norm-any .ensures))
 
 pub sound-step-spec : {M : Type 1} → statement M
 sound-step-spec = tie.close (tie.spec (λ c κs. search needs) returns (λ c κs. search needs) (λ c κs. search needs) returns-2)

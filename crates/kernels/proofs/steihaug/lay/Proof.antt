@@ -8,20 +8,20 @@ use Rattle.kernels.proofs.steihaug.lay.Tie as tie
 returns : tie.Need-returns
 returns c =
     let began = c .before .before .before .before .before .before .before in
-    at-once _ _ _ _ _ _ _ _ _ (began .before .before .norm-unchecked .ensures) (began .start .ensures) _ (began .start .kept .1 .0) _ _ (c .before .before .before .before .if1 .taken) (c .before .before .settle .ensures)
+    at-once _ _ _ _ _ _ _ _ _ (began .before .before .norm-any .ensures) (began .start .ensures) _ (began .start .kept .1 .0) _ _ (c .before .before .before .before .if1 .taken) (c .before .before .settle .ensures)
 
 returns-2 : tie.Need-returns-2
 returns-2 c =
     let done = c .before .before .before .before .before .before .before .before .before in
     let began = done .before .before .before .before .before in
-    in-passes _ _ _ _ _ _ _ _ _ (began .before .before .norm-unchecked .ensures) (began .start .ensures) _ (began .start .kept .1 .0)
+    in-passes _ _ _ _ _ _ _ _ _ (began .before .before .norm-any .ensures) (began .start .ensures) _ (began .start .kept .1 .0)
     _ _ (done .before .before .if1 .left) (rw (c .before .before .before .before .before .end .given .1) at (done .run .ensures)) _ _ _ (done .run .kept .1 .0) refl (c .before .before .settle2 .ensures)
 
 returns-3 : tie.Need-returns-3
 returns-3 c =
     let done = c .before .before .before .before .before .before .before .before .before in
     let began = done .before .before .before .before .before in
-    without-root _ _ _ _ _ _ _ _ _ (began .before .before .norm-unchecked .ensures) (began .start .ensures) _ (began .start .kept .1 .0)
+    without-root _ _ _ _ _ _ _ _ _ (began .before .before .norm-any .ensures) (began .start .ensures) _ (began .start .kept .1 .0)
     _ _ (done .before .before .if1 .left) (rw (c .before .before .before .before .before .end2 .given .1) at (done .run .ensures)) _ _ (done .run .kept .1 .0) refl (c .before .before .clear .ensures)
 
 pub lay-spec : {M : Type 1} → statement M

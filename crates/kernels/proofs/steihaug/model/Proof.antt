@@ -9,4 +9,4 @@ model-spec =
     tie.close
     (tie.spec
     (λ c κs. search needs) (λ c κs. search needs) (λ c κs. search needs)
-    (λ c. model-here _ _ _ _ _ _ _ (c .before .before .part .ensures .0) (c .before .dot-unchecked .ensures) (c .weighted-unchecked .ensures)))
+    (λ c. model-here _ _ _ _ _ _ _ (c .before .before .part .ensures .0) (c .before .dot-any .ensures) (c .weighted-unchecked .ensures)))

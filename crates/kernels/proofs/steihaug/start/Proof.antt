@@ -11,7 +11,7 @@ returns c =
     let d = c .before .before .before in
     let r = d .before .before .before .before in
     let p = r .before .before .before .before in
-    start-here _ _ _ _ (search needs) (p .clear .ensures) _ _ _ _ (r .put .ensures) (put-scaled _ _ _ 2 1 1 _ (d .each .ensures)) (c .dot-unchecked .ensures)
+    start-here _ _ _ _ (search needs) (p .clear .ensures) _ _ _ _ (r .put .ensures) (put-scaled _ _ _ 2 1 1 _ (d .each .ensures)) (c .dot-any .ensures)
 
 pub start-spec : {M : Type 1} → statement M
 start-spec =

@@ -1,28 +1,28 @@
 -- `kernels::steihaug::straight` meets its contract. Assumes nothing.
 use borrow.Author.Needs.{needs}
-use Rattle.kernels.proofs.Passes.{put-same, put-ahead, outside, small-enough, not-yet}
+use Rattle.kernels.proofs.Passes.{put-ahead, outside, small-enough, not-yet}
 use Rattle.kernels.proofs.steihaug.straight.Statement.{statement}
 use Rattle.kernels.proofs.steihaug.straight.Tie as tie
 
 returns : tie.Need-returns
 returns c =
     let q = c .before .before .before .before .before .before .before .before .before in
-    outside _ _ _ _ _ _ _ _ (put-ahead _ _ _ 4 0 2 _ (q .each .ensures)) (c .before .before .before .before .before .norm .ensures) _ (c .before .before .before .before .if1 .taken) (c .before .before .crossing .ensures)
+    outside _ _ _ _ _ _ _ _ (put-ahead _ _ _ 6 0 2 _ (q .each .ensures)) (c .before .before .before .before .before .norm .ensures) _ (c .before .before .before .before .if1 .taken) (c .before .before .crossing .ensures)
 
 returns-2 : tie.Need-returns-2
 returns-2 c =
-    let s = c .before .before .before .before .before .before .before .before .before in
+    let s = c .before .before .before .before .before in
     let q = s .before .before .before .before .before .before .before in
-    small-enough _ _ _ _ _ _ _ _ (put-ahead _ _ _ 4 0 2 _ (q .each .ensures)) (s .before .before .before .norm .ensures)
-    _ _ (s .before .before .if1 .left) (put-ahead _ _ _ 5 1 3 _ (s .each2 .ensures)) (c .before .before .before .before .before .norm2 .ensures)
-    _ (c .before .before .before .before .if2 .taken) (put-same _ _ _ 6 4 4 (search needs) (c .before .before .each3 .ensures))
+    small-enough _ _ _ _ _ _ _ _ (put-ahead _ _ _ 6 0 2 _ (q .each .ensures)) (s .before .before .before .norm .ensures)
+    _ _ (s .before .before .if1 .left) (put-ahead _ _ _ 1 1 3 _ (s .update .ensures)) (c .before .norm2 .ensures)
+    (c .if2 .taken)
 
 returns-3 : tie.Need-returns-3
 returns-3 c =
     let s = c .before .before .before .before .before .before .before .before .before in
     let q = s .before .before .before .before .before .before .before in
-    not-yet _ _ _ _ _ _ _ _ (put-ahead _ _ _ 4 0 2 _ (q .each .ensures)) (s .before .before .before .norm .ensures)
-    _ _ (s .before .before .if1 .left) (put-ahead _ _ _ 5 1 3 _ (s .each2 .ensures)) (c .before .before .before .before .before .norm2 .ensures)
+    not-yet _ _ _ _ _ _ _ _ (put-ahead _ _ _ 6 0 2 _ (q .each .ensures)) (s .before .before .before .norm .ensures)
+    _ _ (s .before .before .if1 .left) (put-ahead _ _ _ 1 1 3 _ (s .update .ensures)) (c .before .before .before .before .before .norm2 .ensures)
     _ (c .before .before .before .before .if2 .left) (c .before .before .onward .ensures)
 
 pub straight-spec : {M : Type 1} → statement M
@@ -31,7 +31,7 @@ straight-spec =
     (tie.spec
     (λ c κs. search needs) (λ c κs. search needs) (λ c κs. search needs) (λ c. search needs)
     returns
-    (λ c κs. search needs) (λ c κs. search needs) (λ c κs. search needs) (λ c. search needs)
+    (λ c κs. search needs) (λ c κs. search needs) (λ c. search needs)
     returns-2
     (λ c κs. search needs) (λ c. search needs)
     returns-3)

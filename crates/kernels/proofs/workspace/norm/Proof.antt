@@ -5,4 +5,4 @@ use Rattle.kernels.proofs.workspace.norm.Statement.{statement}
 use Rattle.kernels.proofs.workspace.norm.Tie as tie
 
 pub norm-spec : {M : Type 1} → statement M
-norm-spec = tie.close (tie.spec (λ c κs. search needs) (λ c κs. search needs) (λ c. c .norm-unchecked .ensures ∙ rw (c .before .part .ensures .0)))
+norm-spec = tie.close (tie.spec (λ c κs. search needs) (λ c κs. search needs) (λ c. c .norm-any .ensures ∙ rw (c .before .part .ensures .0)))
