@@ -1,0 +1,18 @@
+// An f64 as a person writes it: the shortest digits that read back as it, positional from 1e-5 up to
+// below 1e16 and scientific otherwise.
+mod layout;
+
+ghost use Rattle.decimal.specs.Wrote.{Wrote};
+
+// Writes the decimal text of x to the front of `out`, and tells its length; nothing, and 0, where it
+// has no room there. No text is longer than 24 bytes.
+pub fn write(x: f64, out: &mut [u8]) -> usize
+    ensures { λ r. ⌜ Wrote (now (out .entry)) (now (out .exit)) r ⌝ }
+{
+    let mut text = [0u8; 24];
+    let n = layout::put(&mut text, float::bits_of(x));
+    if words::put_text(out, 0, &text[..n]) {
+        return n;
+    }
+    0
+}
