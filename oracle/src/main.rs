@@ -2,7 +2,10 @@
 
 use oracle::step::{self, Answer};
 use oracle::tally::Tally;
-use oracle::{calls, cases, damaged, formulas, leaves, replay, roots, sessions, slips};
+use oracle::{
+    calls, cases, damaged, decimals, fit, formulas, leaves, replay, roots, scripts, sessions, slips,
+    table,
+};
 use std::cell::RefCell;
 use std::env;
 use std::io::{self, BufWriter, Read, Write};
@@ -20,8 +23,17 @@ usage: oracle leaves [--ops K]     answer the calls on standard input, as progra
                                    in, else by the formulas; --counts: and count the answers, on
                                    standard error
        oracle session SEED         write an input of program `replay`
-       oracle replay               answer it, by argmin's own code where that is built in, else by
-                                   the formulas
+       oracle fit-example          write the example of program `replay`
+       oracle replay               answer an input of it, by argmin's own code where that is built
+                                   in, else by the formulas
+       oracle scripts COUNT SEED [KIND]
+                                   write an input of program `replays` of COUNT scripts
+       oracle replay --many [--counts]
+                                   answer it; --counts: and count the lines, on standard error
+       oracle difference FILE      the first script of the input whose lines are not those in FILE
+       oracle table                an input of program `replay` as the table of `replay_table`
+       oracle decimals COUNT SEED  write an input of program `decimals`: COUNT numbers
+       oracle decimal              answer it, by Rust's own shortest digits
        oracle pick NUMBER          write case NUMBER (from 0) of the batch on standard input
        oracle slips COUNT SEED     tell how many of COUNT cases each wrong program answers wrongly
 with argmin's own code built in (README.md):
@@ -30,6 +42,12 @@ with argmin's own code built in (README.md):
        oracle agree-sessions COUNT SEED
                                    the same on the sessions of the seeds from SEED on
 ";
+
+/// Sessions by the best that is there.
+#[cfg(feature = "argmin")]
+const ENGINE: oracle::argmin_sessions::Argmin = oracle::argmin_sessions::Argmin;
+#[cfg(not(feature = "argmin"))]
+const ENGINE: oracle::session::Formulas = oracle::session::Formulas;
 
 fn main() -> ExitCode {
     let words: Vec<String> = env::args().skip(1).collect();
@@ -49,7 +67,17 @@ fn main() -> ExitCode {
             Ok(seed) => write_all(&sessions::input(seed)),
             Err(_) => return usage(),
         },
+        ["fit-example"] => write_all(&fit::input()),
         ["replay"] => answer_replay(),
+        ["replay", "--many"] => answer_scripts(false),
+        ["replay", "--many", "--counts"] => answer_scripts(true),
+        ["difference", file] => difference(file),
+        ["scripts", count, seed, kind] => match (count.parse(), seed.parse(), kind.parse()) {
+            (Ok(count), Ok(seed), Ok(kind)) => write_all(&scripts::input(count, seed, Some(kind))),
+            _ => return usage(),
+        },
+        ["decimal"] => answer_decimal(),
+        ["table"] => answer_table(),
         ["batch"] => answer_batch(false),
         ["batch", "--counts"] => answer_batch(true),
         #[cfg(feature = "argmin")]
@@ -61,8 +89,10 @@ fn main() -> ExitCode {
             match word {
                 "roots" => write_all(&roots::input(count, seed)),
                 "calls" => write_all(&calls::input(count, seed)),
+                "decimals" => write_all(&decimals::input(count, seed)),
                 "damaged" => write_all(&damaged::input(count, seed)),
                 "cases" => write_all(&cases::input(count, seed)),
+                "scripts" => write_all(&scripts::input(count, seed, None)),
                 "slips" => slips::report(count, seed, &mut io::stdout()),
                 #[cfg(feature = "argmin")]
                 "agree" => all_agree(oracle::agree::report(count, seed, &mut io::stdout())),
@@ -125,15 +155,39 @@ fn pick(number: usize) -> io::Result<()> {
     }
 }
 
+fn answer_decimal() -> io::Result<()> {
+    let input = standard_input()?;
+    write_all(decimals::answer(&input).as_bytes())
+}
+
 fn answer_replay() -> io::Result<()> {
     let input = standard_input()?;
     let mut out = BufWriter::new(io::stdout().lock());
-    #[cfg(feature = "argmin")]
-    let engine = oracle::argmin_sessions::Argmin;
-    #[cfg(not(feature = "argmin"))]
-    let engine = oracle::session::Formulas;
-    replay::answer(&input, &engine, &mut out)?;
+    replay::answer(&input, &ENGINE, &mut out)?;
     out.flush()
+}
+
+fn answer_table() -> io::Result<()> {
+    let input = standard_input()?;
+    let mut out = BufWriter::new(io::stdout().lock());
+    table::answer(&input, &ENGINE, &mut out)?;
+    out.flush()
+}
+
+fn answer_scripts(counts: bool) -> io::Result<()> {
+    let input = standard_input()?;
+    let mut out = BufWriter::new(io::stdout().lock());
+    let tally = scripts::answer(&input, &ENGINE, &mut out)?;
+    out.flush()?;
+    if counts {
+        tally.write(&mut io::stderr())?;
+    }
+    Ok(())
+}
+
+fn difference(file: &str) -> io::Result<()> {
+    let other = std::fs::read(file)?;
+    scripts::difference(&standard_input()?, &other, &ENGINE, &mut io::stdout())
 }
 
 #[cfg(feature = "argmin")]

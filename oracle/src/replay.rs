@@ -99,7 +99,7 @@ fn numbers(out: &mut impl Write, name: &str, list: &[f64]) -> io::Result<()> {
 }
 
 /// What is left of the input. Each reading gives nothing where it ends too early.
-struct Reader<'a>(&'a [u8]);
+pub(crate) struct Reader<'a>(pub(crate) &'a [u8]);
 
 impl Reader<'_> {
     fn word(&mut self) -> Option<u64> {
@@ -126,7 +126,7 @@ impl Reader<'_> {
 }
 
 /// The start's words, read whole before it is judged.
-fn start(reader: &mut Reader) -> Option<Result<Station, u8>> {
+pub(crate) fn start(reader: &mut Reader) -> Option<Result<Station, u8>> {
     let kind = reader.word().filter(|kind| (1..=2).contains(kind))?;
     let n = reader.word().filter(|n| (1..=LARGEST_SIZE).contains(n))? as usize;
     let kernel = reader.word()?;
@@ -153,7 +153,7 @@ fn start(reader: &mut Reader) -> Option<Result<Station, u8>> {
     Some(Station::start(settings, cost, point, gradient, hessian))
 }
 
-fn call(reader: &mut Reader, station: &Station) -> Option<Call> {
+pub(crate) fn call(reader: &mut Reader, station: &Station) -> Option<Call> {
     let n = station.size();
     let sr1 = matches!(station.settings.kind, Kind::Sr1 { .. });
     Some(match reader.word()? {

@@ -1,0 +1,15 @@
+// Runs the script on standard input, as `replay` does, and writes a table for people.
+use fit::Manner;
+
+fn main() {
+    let mut room = io::large_buffer();
+    let mut page = io::large_buffer();
+    let ran = fit::run(
+        Manner::Table,
+        &mut room,
+        &mut page,
+        fit::whole_input(),
+        stream::top(),
+    );
+    stream::flush(&page, ran.output);
+}

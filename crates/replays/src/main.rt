@@ -1,0 +1,64 @@
+// Runs many scripts. Standard input has for each a word with its length in words, and its words; the
+// lines of each are written one after another. What is there of a script that runs past the end is run;
+// bytes in the place of a length that make no word end the run with the line `bad input`.
+use fit::Manner;
+use stream::Input;
+use stream::Output;
+use stream::Word;
+
+// What a script leaves to do: the next one, or nothing.
+enum Turn {
+    Next(Input, Output),
+    Stop,
+}
+
+fn script(room: &mut [u8], page: &mut [u8], input: Input, length: u64, output: Output) -> Turn {
+    let ran = fit::run(Manner::Lines, room, page, fit::of(input, length), output);
+    let rest = ran.script;
+    let put = ran.output;
+    let place = rest.input;
+    Turn::Next(place, put)
+}
+
+fn next(room: &mut [u8], page: &mut [u8], input: Input, output: Output) -> Turn {
+    let word = stream::next_word(room, input);
+    match word {
+        Word::Is(length, place) => script(room, page, place, length, output),
+        Word::End => stop(page, output),
+        Word::Short => bad(page, output),
+    }
+}
+
+fn bad(page: &mut [u8], output: Output) -> Turn {
+    let said = stream::put_text(page, output, b"bad input\n");
+    stop(page, said)
+}
+
+fn stop(page: &[u8], output: Output) -> Turn {
+    stream::flush(page, output);
+    Turn::Stop
+}
+
+// A proved loop has to end, and nothing says that an input does: the scripts are counted down from a
+// number that no run uses up.
+fn run(room: &mut [u8], page: &mut [u8]) {
+    let mut input = stream::start();
+    let mut output = stream::top();
+    let mut left = u64::MAX;
+    while left > 0 {
+        left -= 1;
+        match next(room, page, input, output) {
+            Turn::Next(place, put) => {
+                input = place;
+                output = put;
+            }
+            Turn::Stop => return,
+        }
+    }
+}
+
+fn main() {
+    let mut room = io::large_buffer();
+    let mut page = io::large_buffer();
+    run(&mut room, &mut page);
+}

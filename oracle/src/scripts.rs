@@ -1,0 +1,235 @@
+//! Inputs of program `replays`: for each script a word with its length in words, and its words.
+
+use crate::input::words;
+use crate::random::Random;
+use crate::replay;
+use crate::session::Engine;
+use crate::sessions;
+use std::collections::BTreeMap;
+use std::io::{self, Write};
+
+/// `count` scripts, of one kind of session if it is told.
+pub fn input(count: u64, seed: u64, kind: Option<u64>) -> Vec<u8> {
+    let mut random = Random::new(seed);
+    let mut bytes = Vec::new();
+    for _ in 0..count {
+        let script = script(&mut random, kind);
+        words(&mut bytes, &[script.len() as u64]);
+        words(&mut bytes, &script);
+    }
+    bytes
+}
+
+/// A session, damaged now and then.
+fn script(random: &mut Random, kind: Option<u64>) -> Vec<u64> {
+    let mut script = session(random, kind);
+    if !random.once_in(12) {
+        return script;
+    }
+    match random.below(8) {
+        0 => replace(&mut script, 0, random.pick(&[0, 3, 1 << 32 | 1, u64::MAX])),
+        1 => {
+            let n = script.get(1).copied().unwrap_or(1);
+            let wrong = [0, 65, n | 1 << 32, n + 1, n - 1, u64::MAX];
+            replace(&mut script, 1, random.pick(&wrong));
+        }
+        2 => script.extend([random.pick(&[0, 5, 1 << 32 | 1]), 1, 1, 1, 1, 1]),
+        3 => script.extend([4, 0, 0, random.pick(&[3, 1 << 32, u64::MAX]), 0, 0]),
+        4 => script.clear(),
+        _ => {
+            let length = random.below(script.len() as u64 + 1);
+            script.truncate(length as usize);
+        }
+    }
+    script
+}
+
+fn replace(script: &mut [u64], place: usize, word: u64) {
+    if let Some(at) = script.get_mut(place) {
+        *at = word;
+    }
+}
+
+/// The whole words of a random session.
+fn session(random: &mut Random, kind: Option<u64>) -> Vec<u64> {
+    loop {
+        let bytes = sessions::input(random.word());
+        let chunks = bytes.chunks_exact(8);
+        let script: Vec<u64> = chunks
+            .map(|word| u64::from_le_bytes(word.try_into().expect("eight bytes")))
+            .collect();
+        if kind.is_none() || script.first().copied() == kind {
+            return script;
+        }
+    }
+}
+
+/// Splits off the first script: its own bytes, and the rest. A script that runs past the end is
+/// what there is of it. Nothing where the bytes make no length.
+pub fn split(input: &[u8]) -> Option<(&[u8], &[u8])> {
+    let (length, rest) = input.split_first_chunk()?;
+    let bytes = u64::from_le_bytes(*length).saturating_mul(8);
+    let here = usize::try_from(bytes).unwrap_or(usize::MAX).min(rest.len());
+    Some(rest.split_at(here))
+}
+
+/// Answers an input of program `replays`.
+pub fn answer(input: &[u8], engine: &impl Engine, out: &mut impl Write) -> io::Result<Tally> {
+    let mut tally = Tally::default();
+    let mut left = input;
+    while !left.is_empty() {
+        let Some((script, rest)) = split(left) else {
+            writeln!(out, "bad input")?;
+            break;
+        };
+        let lines = lines(script, engine)?;
+        tally.add(script, &lines);
+        out.write_all(&lines)?;
+        left = rest;
+    }
+    Ok(tally)
+}
+
+fn lines(script: &[u8], engine: &impl Engine) -> io::Result<Vec<u8>> {
+    let mut lines = Vec::new();
+    replay::answer(script, engine, &mut lines)?;
+    Ok(lines)
+}
+
+/// Writes the first script whose lines are not those of another program, with its words.
+pub fn difference(
+    input: &[u8],
+    other: &[u8],
+    engine: &impl Engine,
+    out: &mut impl Write,
+) -> io::Result<()> {
+    let (mut left, mut other) = (input, other);
+    let mut number = 0;
+    while let Some((script, rest)) = split(left) {
+        let lines = lines(script, engine)?;
+        let Some(after) = other.strip_prefix(&lines[..]) else {
+            let theirs = String::from_utf8_lossy(other);
+            let many = lines.split(|&byte| byte == b'\n').count();
+            writeln!(out, "script {number} (from 0); the other program goes on:")?;
+            for line in theirs.lines().take(many) {
+                writeln!(out, "  {line}")?;
+            }
+            writeln!(out, "and it should write:")?;
+            for line in String::from_utf8_lossy(&lines).lines() {
+                writeln!(out, "  {line}")?;
+            }
+            writeln!(out, "its words are:")?;
+            for word in script.chunks(8) {
+                let digits: Vec<String> = word.iter().rev().map(|b| format!("{b:02x}")).collect();
+                writeln!(out, "  {}", digits.concat())?;
+            }
+            return Ok(());
+        };
+        (left, other) = (rest, after);
+        number += 1;
+    }
+    writeln!(out, "no script differs: the other program writes more")
+}
+
+/// How often each line came, by kernel.
+#[derive(Default)]
+pub struct Tally {
+    lines: BTreeMap<String, [u64; KERNELS.len()]>,
+    scripts: u64,
+}
+
+const KERNELS: [&str; 4] = ["Cauchy", "Dogleg", "Steihaug", "no kernel"];
+
+impl Tally {
+    fn add(&mut self, script: &[u8], lines: &[u8]) {
+        self.scripts += 1;
+        let kernel = script.chunks_exact(8).nth(2);
+        let column = match kernel.map(|word| word.try_into().map(u64::from_le_bytes)) {
+            Some(Ok(kernel @ 1..=3)) => kernel as usize - 1,
+            _ => 3,
+        };
+        for line in String::from_utf8_lossy(lines).lines() {
+            let words: Vec<&str> = line.split(' ').collect();
+            let name = match words[..] {
+                ["refused" | "end" | "bad", ..] => words[..2].join(" "),
+                ["step" | "trial" | "point" | "gradient" | "hessian" | "radius" | "cost", ..] => {
+                    continue
+                }
+                [word, "7ff8000000000000", ..] => format!("{word}, NaN"),
+                _ => words[0].to_string(),
+            };
+            self.lines.entry(name).or_default()[column] += 1;
+        }
+    }
+
+    /// A table whose rows can be added to those of others.
+    pub fn write(&self, out: &mut impl Write) -> io::Result<()> {
+        write!(out, "{:16}", "")?;
+        for kernel in KERNELS {
+            write!(out, "{kernel:>12}")?;
+        }
+        writeln!(out)?;
+        for (name, counts) in &self.lines {
+            write!(out, "{name:16}")?;
+            for count in counts {
+                write!(out, "{count:>12}")?;
+            }
+            writeln!(out)?;
+        }
+        writeln!(out, "{:16}{:>12}", "scripts", self.scripts)
+    }
+}
+
+#[cfg(test)]
+mod tests {
+    use super::*;
+    use crate::session::Formulas;
+
+    fn answered(input: &[u8]) -> String {
+        let mut out = Vec::new();
+        answer(input, &Formulas, &mut out).unwrap();
+        String::from_utf8(out).unwrap()
+    }
+
+    #[test]
+    fn ends() {
+        assert_eq!(answered(&[]), "");
+        assert_eq!(answered(&[1; 3]), "bad input\n");
+        // Two scripts without a word, and one that runs past the end.
+        let mut bytes = Vec::new();
+        words(&mut bytes, &[0, 0, u64::MAX]);
+        assert_eq!(answered(&bytes), "bad input\n".repeat(3));
+    }
+
+    /// Every kind of line comes up, for every kernel that can have it.
+    #[test]
+    fn lines_of_every_kind() {
+        let mut out = Vec::new();
+        let input = input(600, 1, Some(1));
+        let tally = answer(&input, &Formulas, &mut out).unwrap();
+        for (name, kernels) in [
+            ("start", 7),
+            ("proposed", 7),
+            ("accepted", 7),
+            ("rejected", 7),
+            ("rejected, NaN", 7),
+            ("taken", 7),
+            ("bad input", 7),
+            ("refused 1", 7),
+            ("refused 2", 7),
+            ("refused 3", 7),
+            ("refused 4", 7),
+            ("refused 5", 7),
+            ("refused 6", 2),
+            ("refused 7", 4),
+            ("refused 8", 7),
+            ("end ready", 7),
+            ("end cost", 7),
+            ("end derivatives", 7),
+        ] {
+            for kernel in (0..3).filter(|k| kernels & 1 << k != 0) {
+                assert!(tally.lines[name][kernel] > 0, "no {name}: {kernel}");
+            }
+        }
+    }
+}
