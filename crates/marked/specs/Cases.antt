@@ -2,9 +2,11 @@
 use mathlib.Core.Bool.{true, false}
 use mathlib.Core.List.{List, [], _∷_}
 use Prim.Native.Nat.{ℕ}
-use lib.Ieee.{Float, binary64, round, neg}
+use lib.Ieee.{Float, binary64, round}
 use Rattle.float.specs.Constants.{nought, one, two, half, quarter, eighth, hundred, billionth}
-use Rattle.vectors.specs.Refusal.{Answer, given}
+use Rattle.vectors.specs.Vector.{zeros}
+use Rattle.vectors.specs.Refusal.{Answer, refused, given, room}
+use Rattle.vectors.specs.declared.refusal.Refusal.the-variants.{Range}
 use Rattle.kernels.specs.Kernel.{Made, made}
 use Rattle.kernels.specs.CauchyPoint.{cauchy-point}
 use Rattle.kernels.specs.Dogleg.{dogleg}
@@ -13,6 +15,11 @@ use Rattle.trustregion.specs.Session.{Judgement, judgement}
 use Rattle.trustregion.specs.declared.session.Session.{Session}
 use Rattle.trustregion.specs.declared.session.Phase.{Phase}
 use Rattle.trustregion.specs.declared.session.Phase.the-variants.{Ready, AwaitingCost, AwaitingDerivatives}
+use Rattle.sr1.specs.Settings as sr1-settings
+use Rattle.sr1.specs.Session as sr1
+use Rattle.sr1.specs.declared.session.Session.{Session as Sr1}
+use Rattle.sr1.specs.declared.session.Phase.{Phase as Sr1Phase}
+use Rattle.sr1.specs.declared.session.Phase.the-variants as sr1-phases
 
 infix 30 _over_
 infix 30 minus_over_
@@ -25,10 +32,11 @@ unfoldable pub minus_over_ : ℕ → ℕ → Float
 unfolding round
 minus a over b = round binary64 true a b
 
--- a kernel's answer, and a TrustRegion session's to a cost
+-- a kernel's answer, a TrustRegion session's to a cost, and an SR1TrustRegion session's to a cost and a gradient
 pub data Found : Type 0 where
   kernel : Answer Made → Found
   session : Answer Judgement → Found
+  sr1-session : Answer sr1.Judgement → Found
 
 -- what a definition gives, and what the case wants
 pub record Case : Type 0 where
@@ -82,8 +90,29 @@ rejected max-radius ratio radius = session (given (record { session = session-of
 abbrev accepted : (max-radius ratio radius F : Float) → Found
 accepted max-radius ratio radius F = session (given (record { session = session-of max-radius radius F AwaitingDerivatives; point = two ∷ []; ratio = ratio; accepted = true }))
 
+-- an SR1TrustRegion session at radius 1: f 10
+abbrev sr1-of : (f : Float) → Sr1Phase → Sr1
+sr1-of f phase = record { settings = sr1-settings.by-default 1 5; radius = one; cost = f; phase = phase }
+
+-- "SR1, I, s (1, 0)", answered F 9 and the gradient G at the trial (1, 0) of the point (0, 0), with P 2 and ‖s‖ 1
+abbrev updated : (G : List Float) → Found
+updated G =
+    sr1-session (sr1.judgement (sr1-of (10 over 1) (sr1-phases.AwaitingCost two one)) 2 (9 over 1) G
+    (nought ∷ nought ∷ []) (one ∷ nought ∷ []) (one ∷ nought ∷ []) g I (zeros (room 2)))
+
+-- accepted, with the Hessian of this diagonal
+abbrev diagonal : (G : List Float) (a b : Float) → Found
+diagonal G a b = sr1-session (given (record {
+  session = sr1-of (9 over 1) sr1-phases.Ready;
+  point = one ∷ nought ∷ [];
+  gradient = G;
+  hessian = a ∷ nought ∷ nought ∷ b ∷ [];
+  ratio = half;
+  accepted = true;
+}))
+
 unfoldable pub cases : List Case
-unfolding _over_ minus_over_ cauchy-point dogleg steihaug judgement
+unfolding _over_ minus_over_ zeros cauchy-point dogleg steihaug judgement sr1.judgement
 cases =
     -- 1. Cauchy, I, radius 10: (−3, −4). 2. Radius 2.5: (−1.5, −2). 3. Cauchy, −I, 2.5: (−1.5, −2).
     record { gives = kernel (cauchy-point 2 (10 over 1) g I); wants = whole-step 0 }
@@ -103,4 +132,7 @@ cases =
     -- 12. F 6, ‖p‖ = radius = 2.5, max 4: radius 4. 13. f 10, m 14, F 12: 0.5, accepted uphill.
     ∷ record { gives = answered (4 over 1) (6 over 1) (6 over 1); wants = accepted (4 over 1) one (4 over 1) (6 over 1) }
     ∷ record { gives = answered hundred (14 over 1) (12 over 1); wants = accepted hundred half (5 over 2) (12 over 1) }
+    -- 14. SR1, I, s (1, 0), G − g (3, 0): diagonal 3, 1. 15. G − g (1, 1): q is 0, refusal 8.
+    ∷ record { gives = updated ((6 over 1) ∷ (4 over 1) ∷ []); wants = diagonal ((6 over 1) ∷ (4 over 1) ∷ []) (3 over 1) one }
+    ∷ record { gives = updated ((4 over 1) ∷ (5 over 1) ∷ []); wants = sr1-session (refused Range) }
     ∷ []

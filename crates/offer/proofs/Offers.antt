@@ -20,10 +20,10 @@ use Rattle.kernels.specs.declared.kernel.Stepped.the-variants as stepped
 use Rattle.vectors.proofs.Slots.{length-slot}
 use Rattle.vectors.proofs.Sizes.{square-test}
 use Rattle.kernels.proofs.Choices.{kernel-proper}
-use Rattle.offer.specs.Offer.{all-sized, offered, offer}
+use Rattle.offer.specs.Offer.{all-sized, Offer, offered, offer}
 use Rattle.offer.specs.Calls.{known, replaced, offering, measured, Offers}
 use Rattle.offer.specs.declared.Offered.{Offered}
-use Rattle.offer.specs.declared.Offered.the-variants.{Refused}
+use Rattle.offer.specs.declared.Offered.the-variants.{Refused, Step}
 use Rattle.offer.proofs.Lengths.{lent-true, copied}
 
 -- ---- a step that was laid out
@@ -133,3 +133,14 @@ module _ (choice : ℕ) (epsilon : Float) (limit n : ℕ) (radius : Float) (poin
             let first : slot w₁ n 0 ≡ m .step = ap (λ (v : List Float). slot v n 0) (h .lays) ∙ slot-laid (m .step) _ n (long m refl) in
             let o′ : Offers n g H (offer n point m) r step trial w₁ step′ trial′ w′ = rw (count, first) at o in
             record { says = o′ .says; leaves-step = o′ .leaves-step; leaves-trial = o′ .leaves-trial; leaves-scratch = o′ .leaves-scratch ∙ scratch-same n point m w₁ w l }
+
+-- ---- what the code found says of the answer
+
+module _ {n : ℕ} {g H : List Float} {found : Offered} {step trial w step′ trial′ w′ : List Float} where
+  pub found-none : (a : Answer Offer) (r : Refusal) → Offers n g H a found step trial w step′ trial′ w′ → found ≡ Refused r → a ≡ refused r
+  found-none (refused x) r o f = let same : r ≡ x = (let both : Refused r ≡ Refused x = sym f ∙ o .says in cc) in ap refused (sym same)
+  found-none (given x) r o f = absurd (let both = sym f ∙ o .says in let z : _≡_ {A = ℕ} 0 1 = cc in omega arith)
+
+  pub found-step : (a : Answer Offer) (passes : ℕ) (slope curvature long : Float) → Offers n g H a found step trial w step′ trial′ w′ → found ≡ Step passes slope curvature long → (x : Offer) × (a ≡ given x)
+  found-step (refused x) passes slope curvature long o f = absurd (let both = sym f ∙ o .says in let z : _≡_ {A = ℕ} 0 1 = cc in omega arith)
+  found-step (given x) passes slope curvature long o f = (x, refl)

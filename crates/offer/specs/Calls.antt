@@ -7,7 +7,7 @@ use lib.Dec.{eqb, leb}
 use lib.ListN.{length}
 use lib.Ieee.{Float}
 use Rattle.float.specs.Constants.{nought}
-use Rattle.vectors.specs.Vector.{dot, weighted, norm}
+use Rattle.vectors.specs.Vector.{dot, weighted, norm, all-finite}
 use Rattle.vectors.specs.Refusal.{Answer, refused, given, Check, _if_, unless, then, size, left-in, scratch-after}
 use Rattle.kernels.specs.Choice.{door}
 use Rattle.vectors.specs.declared.refusal.Refusal.the-variants.{Size, Setting, Turn, Entry, Radius}
@@ -30,6 +30,11 @@ early-checks sized sound in-turn finite zero-radius =
     ∷ (Entry if not finite)
     ∷ (Radius if zero-radius)
     ∷ []
+
+-- those of a proposal
+abbrev pub proposal-checks : ℕ → (sound ready zero-radius : Bool) → (point gradient hessian step trial scratch : List Float) → List Check
+proposal-checks n sound ready zero-radius point gradient hessian step trial scratch =
+    early-checks (all-sized n point gradient hessian step trial scratch) sound ready (all-finite point && all-finite gradient && all-finite hessian) zero-radius
 
 -- what a vector becomes that takes the numbers of another: one of another length stays
 abbrev pub replaced : (from to : List Float) → List Float

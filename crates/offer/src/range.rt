@@ -1,4 +1,5 @@
 // What both sessions check: the ranges of their settings and of what they keep, and refusals 1 to 5.
+use crate::lent;
 use vectors::refusal::Refusal;
 use vectors::refusal::Verdict;
 ghost use mathlib.Core.Path.{_≡_};
@@ -93,4 +94,32 @@ pub fn verdict(sized: bool, sound: bool, in_turn: bool, finite: bool, zero_radiu
         return Verdict::Failed(Refusal::Radius);
     }
     Verdict::Passed
+}
+
+// What a proposal is checked for, where the session tells whether it is sound and ready and its radius zero.
+pub fn proposal(
+    n: usize,
+    sound: bool,
+    ready: bool,
+    zero_radius: bool,
+    point: &[f64],
+    gradient: &[f64],
+    hessian: &[f64],
+    step: &[f64],
+    trial: &[f64],
+    scratch: &[f64],
+) -> Verdict
+    ensures { λ r. ⌜ r ≡ judged (Calls.proposal-checks n sound ready «zero_radius» (now (point .entry)) (now (gradient .entry)) (now (hessian .entry)) (now (step .entry)) (now (trial .entry)) (now (scratch .entry))) ⌝ }
+{
+    let sized = lent::all_sized(
+        n,
+        point.len(),
+        gradient.len(),
+        hessian.len(),
+        step.len(),
+        trial.len(),
+        scratch.len(),
+    );
+    let finite = lent::inputs_finite(point, gradient, hessian);
+    verdict(sized, sound, ready, finite, zero_radius)
 }

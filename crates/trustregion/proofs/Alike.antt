@@ -18,7 +18,7 @@ use Rattle.trustregion.specs.declared.settings.Settings.{Settings}
 use Rattle.trustregion.specs.declared.session.Session.{Session}
 use Rattle.trustregion.specs.declared.session.Phase.{Phase}
 use Rattle.trustregion.specs.declared.session.Phase.the-variants.{Ready, AwaitingCost, AwaitingDerivatives}
-use Rattle.trustregion.proofs.Checks.{clash, scratch-length}
+use Rattle.offer.proofs.Checks.{clash, scratch-length}
 use Rattle.offer.proofs.Lengths.{lent-true}
 use Rattle.trustregion.proofs.Answers.{judgement-elim, renewal-elim, other, judged-by, Came, refuses, offers, judges, renews, comes}
 

@@ -13,7 +13,7 @@ use Rattle.trustregion.specs.Session.{sound, is-ready, Promise, promised
 use Rattle.trustregion.specs.Run.{Station, Request, propose, cost, derivatives, refusal, Done, on-proposal, on-judgement, on-renewal, respond}
 use Rattle.trustregion.specs.declared.settings.Settings.{Settings}
 use Rattle.trustregion.specs.declared.session.Session.{Session}
-use Rattle.trustregion.proofs.Checks.{unless-elim, then-elim, not-not, scratch-length}
+use Rattle.offer.proofs.Checks.{unless-elim, then-elim, not-not, scratch-length}
 
 -- a property of every refusal
 abbrev pub Refusals : {A : Type 0} → (Answer A → Type 0) → Type 0

@@ -15,7 +15,7 @@ use Rattle.trustregion.specs.Demand3.{Fair, Within, Same-run, Demand-3}
 use Rattle.trustregion.specs.declared.settings.Settings.{Settings}
 use Rattle.trustregion.specs.declared.session.Session.{Session}
 use Rattle.trustregion.specs.declared.session.Phase.the-variants.{Ready}
-use Rattle.trustregion.proofs.Checks.{unless-elim, clash}
+use Rattle.offer.proofs.Checks.{unless-elim, clash}
 use Rattle.trustregion.proofs.Alike.{Alike, alike-refl, alike-trans}
 use Rattle.trustregion.proofs.Replay.{Replays, strike-replays, thinned-replays, strike-lent}
 use Rattle.trustregion.proofs.Trials.{strike-seen, thinned-trials}

@@ -3,7 +3,6 @@ use mathlib.Core.Path.{_≡_, refl, sym, ap, _∙_}
 use mathlib.Core.Bool.{true, false, not, _&&_}
 use mathlib.Core.List.{List, [], _∷_}
 use Prim.Native.Nat.{ℕ, _*_}
-use native.Mathlib.Omega.{arith}
 use lib.Dec.{eqb}
 use lib.ListN.{length}
 use lib.Ieee.{Float, lt, le}
@@ -24,7 +23,7 @@ use Rattle.offer.specs.Calls.{known, replaced, offering, Offers}
 use Rattle.offer.specs.declared.Offered.{Offered}
 use Rattle.offer.specs.declared.Offered.the-variants as offered
 use Rattle.offer.proofs.Lengths.{copied}
-use Rattle.offer.proofs.Offers.{offers-kernel}
+use Rattle.offer.proofs.Offers.{offers-kernel, found-none, found-step}
 use Rattle.trustregion.specs.Settings.{in-range, chosen}
 use Rattle.trustregion.specs.Session.{sound, in-phase, Promise, promised, model-value, Proposal, awaiting, proposal-checks, proposal, rho, radius-by, settled, verdict-checks, judge, judgement-checks, judgement, renewal-checks, renewed-by, renewal}
 use Rattle.trustregion.specs.Calls.{Proposes, Judges, Renews}
@@ -33,7 +32,7 @@ use Rattle.trustregion.specs.declared.session.Session.{Session}
 use Rattle.trustregion.specs.declared.session.Phase.the-variants.{Ready, AwaitingCost, AwaitingDerivatives}
 use Rattle.trustregion.specs.declared.session.Outcome.the-variants.{Refused, Proposed, Accepted, Rejected, Taken}
 use Rattle.trustregion.specs.declared.session.After.{After}
-use Rattle.trustregion.proofs.Checks.{passed-none, not-not}
+use Rattle.offer.proofs.Checks.{passed-none, not-not}
 
 -- what every refused call returns
 abbrev pub refusing : Session → Refusal → After
@@ -68,8 +67,11 @@ module _ (s : Session) (n : ℕ) (point gradient hessian step trial scratch : Li
   module _ (e : v ≡ Passed) (found : Offered) (step′ trial′ scratch′ : List Float)
       (offers : Offers n gradient hessian (offering (s .settings .kernel) (s .settings .epsilon) (s .settings .limit) n (s .radius) point gradient hessian step trial scratch)
       found step trial scratch step′ trial′ scratch′) where
+    abbrev answer : Answer Offer
+    answer = offering (s .settings .kernel) (s .settings .epsilon) (s .settings .limit) n (s .radius) point gradient hessian step trial scratch
+
     -- the session's proposal follows what was offered
-    follows : proposed ≡ then (λ (o : Offer). given (awaiting s n gradient hessian o)) (offering (s .settings .kernel) (s .settings .epsilon) (s .settings .limit) n (s .radius) point gradient hessian step trial scratch)
+    follows : proposed ≡ then (λ (o : Offer). given (awaiting s n gradient hessian o)) answer
     unfolding proposal sound
     follows =
         let none = passed-none checks (sym judges ∙ e) in
@@ -81,28 +83,18 @@ module _ (s : Session) (n : ℕ) (point gradient hessian step trial scratch : Li
         (sym (offers-kernel (s .settings .kernel) (s .settings .epsilon) (s .settings .limit) n (s .radius) point gradient hessian step trial scratch sizes kernel))
 
     pub proposes-no-step : (r : Refusal) → found ≡ offered.Refused r → Proposes proposed s step trial scratch (refusing s r) step′ trial′ scratch′
-    proposes-no-step r f = rw follows (go _ offers) where
-      go : (a : Answer Offer) → Offers n gradient hessian a found step trial scratch step′ trial′ scratch′
-          → Proposes (then (λ (o : Offer). given (awaiting s n gradient hessian o)) a) s step trial scratch (refusing s r) step′ trial′ scratch′
-      go (refused x) h =
-          let same : r ≡ x = (let told : offered.Refused r ≡ offered.Refused x = sym f ∙ h .says in cc) in
-          record { says = ap (refusing s) same; leaves-step = h .leaves-step; leaves-trial = h .leaves-trial; leaves-scratch = h .leaves-scratch }
-      go (given o) h = absurd (let z : _≡_ {A = ℕ} 0 1 = (let told = sym f ∙ h .says in cc) in omega arith)
+    proposes-no-step r f =
+        let x = found-none answer r offers f in
+        let o = rw x at offers in
+        rw (follows, x) (record { says = refl; leaves-step = o .leaves-step; leaves-trial = o .leaves-trial; leaves-scratch = o .leaves-scratch })
 
     pub proposes-step : (passes : ℕ) (slope curvature norm model : Float) → found ≡ offered.Step passes slope curvature norm → model ≡ s .cost ⊕ slope ⊕ half ⊗ curvature
         → Proposes proposed s step trial scratch (record { session = in-phase (AwaitingCost model norm) s; outcome = Proposed passes }) step′ trial′ scratch′
     unfolding awaiting model-value
-    proposes-step passes slope curvature norm model f m = rw follows (go _ offers) where
-      go : (a : Answer Offer) → Offers n gradient hessian a found step trial scratch step′ trial′ scratch′
-          → Proposes (then (λ (o : Offer). given (awaiting s n gradient hessian o)) a) s step trial scratch
-          (record { session = in-phase (AwaitingCost model norm) s; outcome = Proposed passes }) step′ trial′ scratch′
-      go (refused x) h = absurd (let z : _≡_ {A = ℕ} 0 1 = (let told = sym f ∙ h .says in cc) in omega arith)
-      go (given o) h = record {
-        says = (let told = sym f ∙ h .says in cc);
-        leaves-step = h .leaves-step;
-        leaves-trial = h .leaves-trial;
-        leaves-scratch = h .leaves-scratch;
-      }
+    proposes-step passes slope curvature norm model f m =
+        let x = found-step answer passes slope curvature norm offers f in
+        let o = rw (x .1) at offers in
+        rw (follows, x .1) (record { says = (let told = sym f ∙ o .says in cc); leaves-step = o .leaves-step; leaves-trial = o .leaves-trial; leaves-scratch = o .leaves-scratch })
 
 -- ---- the answer with a cost
 

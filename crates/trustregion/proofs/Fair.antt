@@ -18,7 +18,7 @@ use Rattle.trustregion.specs.Run.{Station, Lending, own, others, Call, T
 use Rattle.trustregion.specs.Demand3.{Fair, Within}
 use Rattle.trustregion.specs.declared.settings.Settings.{Settings}
 use Rattle.trustregion.specs.declared.session.Session.{Session}
-use Rattle.trustregion.proofs.Checks.{cond-elim}
+use Rattle.offer.proofs.Checks.{cond-elim}
 use Rattle.trustregion.proofs.Quarter.{quarter-within}
 use Rattle.trustregion.proofs.Answers.{Came, refuses, offers, judges, renews, comes}
 

@@ -1,4 +1,3 @@
-pub mod Checks
 pub mod Answers
 pub mod Alike
 pub mod Replay

@@ -9,7 +9,7 @@ use lib.Ieee.Fits.{and-i, and-l, and-r}
 use Rattle.kernels.specs.Kernel.{Kernel, Proper}
 use Rattle.trustregion.specs.Run.{Station, Call, Reply, Entry, perform, run, final, calls, refused-by-1, was-refused, opens-trial, took-nan, lends-own, lent-same, nan-comes, strike-from, Thinned, none, keep, drop}
 use Rattle.trustregion.specs.declared.settings.Settings.{Settings}
-use Rattle.trustregion.proofs.Checks.{cond-elim}
+use Rattle.offer.proofs.Checks.{cond-elim}
 use Rattle.trustregion.proofs.Alike.{Alike, alike-trans, Follows, follow, refused-keeps, back, back-alike, nan-closes, proposal-opens}
 
 -- the first call of a run is lent the station's own, or refused by 1

@@ -68,19 +68,20 @@ fn proposal_checked(
 {
     let phase = s.phase;
     let radius = s.radius;
-    let sized = lent::all_sized(
-        n,
-        point.len(),
-        gradient.len(),
-        hessian.len(),
-        step.len(),
-        trial.len(),
-        scratch.len(),
-    );
     let sound = session::sound(s);
     let ready = session::is_ready(phase);
-    let finite = lent::inputs_finite(point, gradient, hessian);
-    range::verdict(sized, sound, ready, finite, radius == 0.0)
+    range::proposal(
+        n,
+        sound,
+        ready,
+        radius == 0.0,
+        point,
+        gradient,
+        hessian,
+        step,
+        trial,
+        scratch,
+    )
 }
 
 // The model at the trial: (f + p·g) + 0.5·(p·H·p).

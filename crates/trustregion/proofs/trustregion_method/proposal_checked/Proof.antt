@@ -4,12 +4,7 @@ use borrow.Author.Needs.{needs}
 use Rattle.trustregion.proofs.trustregion_method.proposal_checked.Statement.{statement}
 use Rattle.trustregion.proofs.trustregion_method.proposal_checked.Tie as tie
 
-returns : tie.Need-returns
-returns c =
-    let finite = c .before in
-    let ready = finite .before in
-    let sound = ready .before in
-    c .verdict .ensures ∙ rw (sound .before .all-sized .ensures, sound .sound .ensures, ready .is-ready .ensures, finite .inputs-finite .ensures)
-
 pub proposal-checked-spec : {M : Type 1} → statement M
-proposal-checked-spec = tie.close (tie.spec (λ c κs. search needs) (λ c κs. search needs) (λ c κs. search needs) (λ c κs. search needs) (λ c κs. search needs) returns)
+proposal-checked-spec =
+    tie.close
+    (tie.spec (λ c κs. search needs) (λ c κs. search needs) (λ c κs. search needs) (λ c. c .proposal .ensures ∙ rw (c .before .before .sound .ensures, c .before .is-ready .ensures)))

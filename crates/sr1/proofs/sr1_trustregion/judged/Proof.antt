@@ -1,0 +1,39 @@
+-- `sr1::sr1_trustregion::judged` meets its contract. Assumes nothing.
+use mathlib.Core.Path.{sym, ap, _∙_}
+use borrow.Author.Needs.{needs}
+use Rattle.sr1.specs.Session.{promised}
+use Rattle.sr1.proofs.Ends.{judges-not, judges-out-of-turn, judges-in-turn}
+use Rattle.sr1.proofs.sr1_trustregion.judged.Statement.{statement}
+use Rattle.sr1.proofs.sr1_trustregion.judged.Tie as tie
+
+judge-requires : tie.Need-judge-requires
+judge-requires c κs = let told = c .before .before .before .before .before .before .before in sym (told .before .before .judgement-checked .ensures) ∙ told .enum-told .given .1
+
+returns : tie.Need-returns
+returns c = judges-not _ _ _ _ _ _ _ _ _ _ _ (c .before .before .before .judgement-checked .ensures) _ (c .before .checks .given .1)
+
+returns-2 : tie.Need-returns-2
+returns-2 c =
+    let judge = c .before .before .before .before .before .before .before .before in
+    let phase = judge .before .before .before .before .before .before in
+    let told = phase .before .before in
+    judges-in-turn _ _ _ _ _ _ _ _ _ _ _ (told .before .before .judgement-checked .ensures) (told .enum-told .given .1) _ _ _ _ _ _ (ap promised (phase .phase .given .1)) (judge .judge .ensures)
+
+returns-3 : tie.Need-returns-3
+returns-3 c =
+    let told = c .before .before in
+    judges-out-of-turn _ _ _ _ _ _ _ _ _ _ _ (told .before .before .judgement-checked .ensures) (told .enum-told .given .1) (ap promised (c .enum-told2 .given .1))
+
+pub judged-spec : {M : Type 1} → statement M
+judged-spec =
+    tie.close
+    (tie.spec
+    (λ c κs. search needs) (λ c. search needs) (λ c. search needs) (λ c. search needs)
+    judge-requires
+    (λ c. search needs)
+    (λ c. search needs) (λ c. search needs) (λ c. search needs) (λ c. search needs)
+    returns
+    (λ c. search needs) (λ c. search needs) (λ c. search needs) (λ c. search needs)
+    returns-2
+    (λ c. search needs) (λ c. search needs) (λ c. search needs) (λ c. search needs)
+    returns-3)

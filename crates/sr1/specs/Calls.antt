@@ -1,0 +1,53 @@
+-- What a call by value returns and a call by `&mut` leaves, with the vectors at exit, for the answer that Session.antt gives. Definitions only.
+-- "A refusal returns its number only. Session, point, step and every other output keep their bits."
+use mathlib.Core.Path.{_≡_}
+use mathlib.Core.Bool.{Bool, cond}
+use mathlib.Core.List.{List}
+use lib.Ieee.{Float}
+use Rattle.vectors.specs.Vector.{all-finite}
+use Rattle.vectors.specs.Refusal.{Answer, refused, given, left-in, scratch-after}
+use Rattle.sr1.specs.Session.{Proposal, Judgement}
+use Rattle.sr1.specs.declared.session.Session.{Session}
+use Rattle.sr1.specs.declared.session.Start.{Start}
+use Rattle.sr1.specs.declared.session.Start.the-variants as start
+use Rattle.sr1.specs.declared.session.Outcome.{Outcome}
+use Rattle.sr1.specs.declared.session.Outcome.the-variants.{Refused, Accepted, Rejected}
+use Rattle.sr1.specs.declared.session.After.{After}
+
+abbrev pub begun : Answer Session → Start
+begun (refused r) = start.Refused r
+begun (given s) = start.Started s
+
+-- the session and the outcome after an answer, for a session s
+abbrev pub told : {A : Type 0} → (A → Session) → (A → Outcome) → Answer A → Session → After
+told session outcome (refused r) s = record { session = s; outcome = Refused r }
+told session outcome (given a) s = record { session = session a; outcome = outcome a }
+
+abbrev pub after-proposal : Answer Proposal → Session → After
+after-proposal = told (λ p. p .session) (λ p. p .outcome)
+
+abbrev pub verdict-of : (accepted : Bool) → (ratio : Float) → Outcome
+verdict-of accepted ratio = cond accepted (Accepted ratio) (Rejected ratio)
+
+abbrev pub after-judgement : Answer Judgement → Session → After
+after-judgement = told (λ j. j .session) (λ j. verdict-of (j .accepted) (j .ratio))
+
+-- ---- each call: s and the lists are those at entry, those with a prime at exit
+
+pub record Proposes (answer : Answer Proposal) (s : Session) (step trial scratch : List Float) (r : After) (step′ trial′ scratch′ : List Float) : Type 0 where
+  pub says : r ≡ after-proposal answer s
+  pub leaves-step : step′ ≡ left-in (λ p. p .step) answer step
+  pub leaves-trial : trial′ ≡ left-in (λ p. p .trial) answer trial
+  pub leaves-scratch : scratch′ ≡ scratch-after answer scratch
+
+-- the update of a Hessian: what comes next where all of it is finite, and else the old one
+pub record Updates (next : List Float) (r : Bool) (hessian hessian′ : List Float) : Type 0 where
+  pub says : r ≡ all-finite next
+  pub leaves : hessian′ ≡ cond (all-finite next) next hessian
+
+pub record Judges (answer : Answer Judgement) (s : Session) (point gradient hessian scratch : List Float) (r : After) (point′ gradient′ hessian′ scratch′ : List Float) : Type 0 where
+  pub says : r ≡ after-judgement answer s
+  pub leaves-point : point′ ≡ left-in (λ j. j .point) answer point
+  pub leaves-gradient : gradient′ ≡ left-in (λ j. j .gradient) answer gradient
+  pub leaves-hessian : hessian′ ≡ left-in (λ j. j .hessian) answer hessian
+  pub leaves-scratch : scratch′ ≡ scratch-after answer scratch

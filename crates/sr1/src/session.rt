@@ -1,0 +1,61 @@
+// The state that argmin keeps in options and closures, as values.
+use crate::settings;
+use crate::settings::Settings;
+use offer::range;
+use vectors::refusal::Refusal;
+ghost use mathlib.Core.Path.{_≡_};
+ghost use Rattle.sr1.specs.Session as Definition;
+
+// Awaiting a cost, a session holds the predicted fall P and the step norm that it was promised on.
+pub enum Phase {
+    Ready,
+    AwaitingCost(f64, f64),
+}
+
+pub struct Session {
+    pub settings: Settings,
+    pub radius: f64,
+    pub cost: f64,
+    pub phase: Phase,
+}
+
+// What a start comes to: a refusal is its number only.
+pub enum Start {
+    Refused(Refusal),
+    Started(Session),
+}
+
+// What any other call says: nothing left to do, the passes of a proposal, the ratio of a verdict.
+pub enum Outcome {
+    Refused(Refusal),
+    Done,
+    Proposed(u64),
+    Accepted(f64),
+    Rejected(f64),
+}
+
+pub struct After {
+    pub session: Session,
+    pub outcome: Outcome,
+}
+
+// What refusal 2 asks of a session at every call.
+pub fn sound(s: Session) -> bool
+    ensures { λ r. ⌜ r ≡ Definition.sound s ⌝ }
+{
+    let settings = s.settings;
+    let radius = s.radius;
+    let cost = s.cost;
+    let ranged = settings::in_range(settings);
+    let steady = range::steady(radius, cost);
+    range::all(true, true, true, true, ranged, steady)
+}
+
+pub fn is_ready(phase: Phase) -> bool
+    ensures { λ r. ⌜ r ≡ Definition.is-ready phase ⌝ }
+{
+    match phase {
+        Phase::Ready => true,
+        Phase::AwaitingCost(_, _) => false,
+    }
+}

@@ -1,0 +1,545 @@
+// SR1TrustRegion (Nocedal and Wright, Numerical Optimization, section 6.2, algorithm 6.2): its calls by value,
+// in the order of argmin's steps. Nothing is written before the last refusal is decided.
+use crate::session;
+use crate::session::After;
+use crate::session::Outcome;
+use crate::session::Phase;
+use crate::session::Session;
+use crate::session::Start;
+use crate::settings;
+use crate::settings::Settings;
+use offer::Offered;
+use offer::lent;
+use offer::range;
+use vectors::refusal::Refusal;
+use vectors::refusal::Verdict;
+use vectors::vector;
+ghost use mathlib.Core.Path.{_≡_};
+ghost use mathlib.Core.Bool.{true, _&&_, _||_};
+ghost use Prim.Native.Nat.{_+_, _*_, _≤_, _<_};
+ghost use lib.ListN.{length};
+ghost use lib.Ieee.{neg, isNan};
+ghost use Rattle.float.specs.Numbers.{_⊕_, _⊖_, _⊗_, finite};
+ghost use Rattle.float.specs.Constants.{half};
+ghost use Rattle.vectors.specs.Vector.{zeros, all-finite};
+ghost use Rattle.vectors.specs.Slots.{Puts};
+ghost use Rattle.vectors.specs.Refusal.{judged, Square};
+ghost use Rattle.vectors.specs.declared.refusal.Verdict.the-variants.{Passed};
+ghost use Rattle.sr1.specs.Settings.{chosen};
+ghost use Rattle.sr1.specs.Session as Definition;
+ghost use Rattle.sr1.specs.Session.{proposal-checks, proposal, residual, gained-row, gained, updated-by, updated, next-radius, judgement-checks, judgement};
+ghost use Rattle.sr1.specs.Calls.{begun, Proposes, Updates, Judges};
+
+// ---- start
+
+pub fn start(settings: Settings, cost: f64) -> Start
+    ensures { λ r. ⌜ r ≡ begun (Definition.start settings cost) ⌝ }
+{
+    let radius = settings.radius;
+    let ranged = settings::in_range(settings);
+    let finite = float::finite(cost);
+    let checks = range::verdict(true, ranged, true, finite, false);
+    match checks {
+        Verdict::Failed(r) => Start::Refused(r),
+        Verdict::Passed => Start::Started(Session {
+            settings: settings,
+            radius: float::magnitude(radius),
+            cost: cost,
+            phase: Phase::Ready,
+        }),
+    }
+}
+
+// ---- propose
+
+// Refusals 1 to 4: refusal 5 comes after the test whether the session is done.
+fn proposal_checked(
+    s: Session,
+    n: usize,
+    point: &[f64],
+    gradient: &[f64],
+    hessian: &[f64],
+    step: &[f64],
+    trial: &[f64],
+    scratch: &[f64],
+) -> Verdict
+    ensures { λ r. ⌜ r ≡ judged (proposal-checks s n (now (point .entry)) (now (gradient .entry)) (now (hessian .entry)) (now (step .entry)) (now (trial .entry)) (now (scratch .entry))) ⌝ }
+{
+    let phase = s.phase;
+    let sound = session::sound(s);
+    let ready = session::is_ready(phase);
+    range::proposal(
+        n,
+        sound,
+        ready,
+        false,
+        point,
+        gradient,
+        hessian,
+        step,
+        trial,
+        scratch,
+    )
+}
+
+// Whether the gradient is below the tolerance.
+fn converged(s: Session, gradient: &[f64]) -> bool
+    ensures { λ r. ⌜ r ≡ Definition.converged s (now (gradient .entry)) ⌝ }
+{
+    let settings = s.settings;
+    let tol_grad = settings.tol_grad;
+    vector::norm_any(gradient) < tol_grad
+}
+
+// The fall that the model promises: (−(g·s)) − 0.5·(s·H·s).
+fn predicted_fall(slope: f64, curvature: f64) -> f64
+    ensures { λ r. ⌜ r ≡ neg slope ⊖ half ⊗ curvature ⌝ }
+{
+    float::one_nan(-slope - 0.5 * curvature)
+}
+
+// A step and the trial point; what it was promised on is kept until its cost comes.
+fn stepped(
+    s: Session,
+    n: usize,
+    point: &[f64],
+    gradient: &[f64],
+    hessian: &[f64],
+    step: &mut [f64],
+    trial: &mut [f64],
+    scratch: &mut [f64],
+) -> After
+    requires { ⌜ judged (proposal-checks s n (now point) (now gradient) (now hessian) (now step) (now trial) (now scratch)) ≡ Passed ⌝ }
+    ensures { λ r. ⌜ Proposes (Definition.stepping chosen s n (now (point .entry)) (now (gradient .entry)) (now (hessian .entry)))
+        s (now (step .entry)) (now (trial .entry)) (now (scratch .entry)) r (now (step .exit)) (now (trial .exit)) (now (scratch .exit)) ⌝ }
+{
+    let settings = s.settings;
+    let radius = s.radius;
+    let cost = s.cost;
+    let kernel = settings.kernel;
+    let epsilon = settings.epsilon;
+    let limit = settings.limit;
+    if radius == 0.0 {
+        return After {
+            session: s,
+            outcome: Outcome::Refused(Refusal::Radius),
+        };
+    }
+    let offered = offer::make(
+        kernel,
+        n,
+        radius,
+        epsilon,
+        limit,
+        point,
+        gradient,
+        hessian,
+        step,
+        trial,
+        scratch,
+    );
+    match offered {
+        Offered::Refused(r) => After {
+            session: s,
+            outcome: Outcome::Refused(r),
+        },
+        Offered::Step {
+            passes,
+            slope,
+            curvature,
+            norm,
+        } => {
+            let predicted = predicted_fall(slope, curvature);
+            After {
+                session: Session {
+                    settings: settings,
+                    radius: radius,
+                    cost: cost,
+                    phase: Phase::AwaitingCost(predicted, norm),
+                },
+                outcome: Outcome::Proposed(passes),
+            }
+        }
+    }
+}
+
+pub fn proposed(
+    s: Session,
+    n: usize,
+    point: &[f64],
+    gradient: &[f64],
+    hessian: &[f64],
+    step: &mut [f64],
+    trial: &mut [f64],
+    scratch: &mut [f64],
+) -> After
+    ensures { λ r. ⌜ Proposes (proposal chosen s n (now (point .entry)) (now (gradient .entry)) (now (hessian .entry)) (now (step .entry)) (now (trial .entry)) (now (scratch .entry)))
+        s (now (step .entry)) (now (trial .entry)) (now (scratch .entry)) r (now (step .exit)) (now (trial .exit)) (now (scratch .exit)) ⌝ }
+{
+    let checks = proposal_checked(s, n, point, gradient, hessian, step, trial, scratch);
+    match checks {
+        Verdict::Failed(r) => After {
+            session: s,
+            outcome: Outcome::Refused(r),
+        },
+        Verdict::Passed => {
+            if converged(s, gradient) {
+                lent::clear(scratch);
+                return After {
+                    session: s,
+                    outcome: Outcome::Done,
+                };
+            }
+            stepped(s, n, point, gradient, hessian, step, trial, scratch)
+        }
+    }
+}
+
+// ---- the answer with a cost and a gradient
+
+fn judgement_checked(
+    s: Session,
+    n: usize,
+    new_gradient: &[f64],
+    point: &[f64],
+    step: &[f64],
+    trial: &[f64],
+    gradient: &[f64],
+    hessian: &[f64],
+    scratch: &[f64],
+) -> Verdict
+    ensures { λ r. ⌜ r ≡ judged (judgement-checks s n (now («new_gradient» .entry)) (now (point .entry)) (now (step .entry)) (now (trial .entry)) (now (gradient .entry)) (now (hessian .entry)) (now (scratch .entry))) ⌝ }
+{
+    let lengths = lent::all_sized(
+        n,
+        point.len(),
+        gradient.len(),
+        hessian.len(),
+        step.len(),
+        trial.len(),
+        scratch.len(),
+    );
+    let sized = range::all(true, true, true, true, lengths, new_gradient.len() == n);
+    let sound = session::sound(s);
+    range::verdict(sized, sound, true, true, false)
+}
+
+// A hidden marker's cost is a NaN: that is an answer, an infinity is none.
+fn cost_taken(cost: f64) -> bool
+    ensures { λ r. ⌜ r ≡ (finite cost || isNan cost) ⌝ }
+{
+    if float::finite(cost) {
+        return true;
+    }
+    float::is_nan(cost)
+}
+
+// What refusal 4 asks of an answer.
+fn answered(
+    cost: f64,
+    new_gradient: &[f64],
+    step: &[f64],
+    trial: &[f64],
+    gradient: &[f64],
+    hessian: &[f64],
+) -> bool
+    ensures { λ r. ⌜ r ≡ (all-finite (now (step .entry)) && all-finite (now (trial .entry)) && all-finite (now (gradient .entry)) && all-finite (now (hessian .entry)) && all-finite (now («new_gradient» .entry)) && (finite cost || isNan cost)) ⌝ }
+{
+    range::all(
+        vector::all_finite(step),
+        vector::all_finite(trial),
+        vector::all_finite(gradient),
+        vector::all_finite(hessian),
+        vector::all_finite(new_gradient),
+        cost_taken(cost),
+    )
+}
+
+// The fall of the cost over the fall that was predicted.
+fn fall_ratio(before: f64, cost: f64, predicted: f64) -> f64
+    ensures { λ r. ⌜ r ≡ Definition.fall-ratio before cost predicted ⌝ }
+{
+    float::one_nan((before - cost) / predicted)
+}
+
+// A NaN ratio passes no test: it halves the radius.
+fn next_radius(ratio: f64, norm: f64, radius: f64) -> f64
+    ensures { λ r. ⌜ r ≡ next-radius ratio norm radius ⌝ }
+{
+    if 0.75 < ratio {
+        if norm <= 0.8 * radius {
+            return radius;
+        }
+        return 2.0 * radius;
+    }
+    if 0.1 <= ratio {
+        if ratio <= 0.75 {
+            return radius;
+        }
+    }
+    0.5 * radius
+}
+
+// z = (G − g) − H·s, at the start of the scratch.
+fn lay_residual(
+    n: usize,
+    new_gradient: &[f64],
+    gradient: &[f64],
+    hessian: &[f64],
+    step: &[f64],
+    w: &mut [f64],
+)
+    requires { ⌜ (n ≤ length (now w)) × Square n (length (now hessian)) × (length (now «new_gradient») ≡ n) × (length (now gradient) ≡ n) × (length (now step) ≡ n) ⌝ }
+    ensures { λ _. ⌜ Puts (now (w .entry)) n 0 (residual n (now («new_gradient» .entry)) (now (gradient .entry)) (now (hessian .entry)) (now (step .entry))) (now (w .exit)) ⌝ }
+{
+    let mut i = 0;
+    while i < n {
+        w[i] = new_gradient[i] - gradient[i] - vector::dot_any(vector::row(n, hessian, i), step);
+        i += 1;
+    }
+}
+
+// Whether the Hessian is updated. argmin takes the norm of the number q, its magnitude, on both sides.
+fn updates(factor: f64, norm: f64, q: f64) -> bool
+    ensures { λ r. ⌜ r ≡ Definition.updates factor norm q ⌝ }
+{
+    let size = float::magnitude(q);
+    factor * norm * size <= size
+}
+
+// What an entry of the Hessian becomes, where a is z_i, b is z_j and share is 1/q.
+fn entry(x: f64, a: f64, b: f64, share: f64) -> f64
+    ensures { λ r. ⌜ r ≡ x ⊕ a ⊗ b ⊗ share ⌝ }
+{
+    x + a * b * share
+}
+
+// Whether each entry of row i will be finite.
+fn row_finite(n: usize, z: &[f64], share: f64, hessian: &[f64], i: usize) -> bool
+    requires { ⌜ (i * n + n ≤ length (now hessian)) × (length (now z) ≡ n) × (i < n) ⌝ }
+    ensures { λ r. ⌜ r ≡ all-finite (gained-row n (now (hessian .entry)) (now (z .entry)) share i) ⌝ }
+{
+    let start = i * n;
+    let a = z[i];
+    let mut j = 0;
+    while j < n {
+        if !float::finite(entry(hessian[start + j], a, z[j], share)) {
+            return false;
+        }
+        j += 1;
+    }
+    true
+}
+
+// Whether each entry will be finite.
+fn rows_finite(n: usize, z: &[f64], share: f64, hessian: &[f64]) -> bool
+    requires { ⌜ Square n (length (now hessian)) × (length (now z) ≡ n) ⌝ }
+    ensures { λ r. ⌜ r ≡ all-finite (gained n (now (hessian .entry)) (now (z .entry)) share) ⌝ }
+{
+    let mut i = 0;
+    while i < n {
+        if !row_finite(n, z, share, hessian, i) {
+            return false;
+        }
+        i += 1;
+    }
+    true
+}
+
+// Row i takes its new entries.
+fn write_row(n: usize, z: &[f64], share: f64, hessian: &mut [f64], i: usize)
+    requires { ⌜ (i * n + n ≤ length (now hessian)) × (length (now z) ≡ n) × (i < n) ⌝ }
+    ensures { λ _. ⌜ Puts (now (hessian .entry)) n i (gained-row n (now (hessian .entry)) (now (z .entry)) share i) (now (hessian .exit)) ⌝ }
+{
+    let start = i * n;
+    let a = z[i];
+    let mut j = 0;
+    while j < n {
+        hessian[start + j] = entry(hessian[start + j], a, z[j], share);
+        j += 1;
+    }
+}
+
+// Every row does.
+fn write_rows(n: usize, z: &[f64], share: f64, hessian: &mut [f64])
+    requires { ⌜ Square n (length (now hessian)) × (length (now z) ≡ n) ⌝ }
+    ensures { λ _. ⌜ now (hessian .exit) ≡ gained n (now (hessian .entry)) (now (z .entry)) share ⌝ }
+{
+    let mut i = 0;
+    while i < n {
+        write_row(n, z, share, hessian, i);
+        i += 1;
+    }
+}
+
+// The Hessian is updated, unless an entry of it would not be finite. Every entry is tested before one is
+// written: there is no room for a second matrix.
+fn update(n: usize, factor: f64, norm: f64, step: &[f64], z: &[f64], hessian: &mut [f64]) -> bool
+    requires { ⌜ Square n (length (now hessian)) × (length (now z) ≡ n) × (all-finite (now hessian) ≡ true) ⌝ }
+    ensures { λ r. ⌜ Updates (updated-by n factor norm (now (hessian .entry)) (now (step .entry)) (now (z .entry))) r (now (hessian .entry)) (now (hessian .exit)) ⌝ }
+{
+    let q = vector::dot_any(step, z);
+    if !updates(factor, norm, q) {
+        return true;
+    }
+    let share = 1.0 / q;
+    if !rows_finite(n, z, share, hessian) {
+        return false;
+    }
+    write_rows(n, z, share, hessian);
+    true
+}
+
+// The same by way of the scratch, which is +0 afterwards.
+fn renew(
+    n: usize,
+    factor: f64,
+    norm: f64,
+    new_gradient: &[f64],
+    step: &[f64],
+    gradient: &[f64],
+    hessian: &mut [f64],
+    scratch: &mut [f64],
+) -> bool
+    requires { ⌜ (n ≤ length (now scratch)) × Square n (length (now hessian)) × (length (now «new_gradient») ≡ n) × (length (now gradient) ≡ n) × (length (now step) ≡ n) × (all-finite (now hessian) ≡ true) ⌝ }
+    ensures { λ r. ⌜ Updates (updated n factor norm (now («new_gradient» .entry)) (now (gradient .entry)) (now (hessian .entry)) (now (step .entry))) r (now (hessian .entry)) (now (hessian .exit))
+        × (now (scratch .exit) ≡ zeros (length (now (scratch .entry)))) ⌝ }
+{
+    lay_residual(n, new_gradient, gradient, hessian, step, scratch);
+    let done = update(n, factor, norm, step, &scratch[0..n], hessian);
+    lent::clear(scratch);
+    done
+}
+
+// The verdict on a trial that was promised on a predicted fall and a step norm.
+fn judge(
+    s: Session,
+    n: usize,
+    predicted: f64,
+    norm: f64,
+    answer: f64,
+    new_gradient: &[f64],
+    point: &mut [f64],
+    step: &[f64],
+    trial: &[f64],
+    gradient: &mut [f64],
+    hessian: &mut [f64],
+    scratch: &mut [f64],
+) -> After
+    requires { ⌜ judged (judgement-checks s n (now «new_gradient») (now point) (now step) (now trial) (now gradient) (now hessian) (now scratch)) ≡ Passed ⌝ }
+    ensures { λ r. ⌜ Judges (Definition.judge s n answer (now («new_gradient» .entry)) (now (point .entry)) (now (step .entry)) (now (trial .entry)) (now (gradient .entry)) (now (hessian .entry)) (record { predicted = predicted; norm = norm }))
+        s (now (point .entry)) (now (gradient .entry)) (now (hessian .entry)) (now (scratch .entry)) r (now (point .exit)) (now (gradient .exit)) (now (hessian .exit)) (now (scratch .exit)) ⌝ }
+{
+    let settings = s.settings;
+    let radius = s.radius;
+    let before = s.cost;
+    let eta = settings.eta;
+    let factor = settings.factor;
+    if !answered(answer, new_gradient, step, trial, gradient, hessian) {
+        return After {
+            session: s,
+            outcome: Outcome::Refused(Refusal::Entry),
+        };
+    }
+    let ratio = fall_ratio(before, answer, predicted);
+    let next = next_radius(ratio, norm, radius);
+    if !float::finite(next) {
+        lent::clear(scratch);
+        return After {
+            session: s,
+            outcome: Outcome::Refused(Refusal::Range),
+        };
+    }
+    if !renew(
+        n,
+        factor,
+        norm,
+        new_gradient,
+        step,
+        gradient,
+        hessian,
+        scratch,
+    ) {
+        return After {
+            session: s,
+            outcome: Outcome::Refused(Refusal::Range),
+        };
+    }
+    if eta < ratio {
+        lent::copy(trial, point);
+        lent::copy(new_gradient, gradient);
+        return After {
+            session: Session {
+                settings: settings,
+                radius: next,
+                cost: answer,
+                phase: Phase::Ready,
+            },
+            outcome: Outcome::Accepted(ratio),
+        };
+    }
+    After {
+        session: Session {
+            settings: settings,
+            radius: next,
+            cost: before,
+            phase: Phase::Ready,
+        },
+        outcome: Outcome::Rejected(ratio),
+    }
+}
+
+pub fn judged(
+    s: Session,
+    n: usize,
+    cost: f64,
+    new_gradient: &[f64],
+    point: &mut [f64],
+    step: &[f64],
+    trial: &[f64],
+    gradient: &mut [f64],
+    hessian: &mut [f64],
+    scratch: &mut [f64],
+) -> After
+    ensures { λ r. ⌜ Judges (judgement s n cost (now («new_gradient» .entry)) (now (point .entry)) (now (step .entry)) (now (trial .entry)) (now (gradient .entry)) (now (hessian .entry)) (now (scratch .entry)))
+        s (now (point .entry)) (now (gradient .entry)) (now (hessian .entry)) (now (scratch .entry)) r (now (point .exit)) (now (gradient .exit)) (now (hessian .exit)) (now (scratch .exit)) ⌝ }
+{
+    let phase = s.phase;
+    let checks = judgement_checked(
+        s,
+        n,
+        new_gradient,
+        point,
+        step,
+        trial,
+        gradient,
+        hessian,
+        scratch,
+    );
+    match checks {
+        Verdict::Failed(r) => After {
+            session: s,
+            outcome: Outcome::Refused(r),
+        },
+        Verdict::Passed => match phase {
+            Phase::AwaitingCost(predicted, norm) => judge(
+                s,
+                n,
+                predicted,
+                norm,
+                cost,
+                new_gradient,
+                point,
+                step,
+                trial,
+                gradient,
+                hessian,
+                scratch,
+            ),
+            Phase::Ready => After {
+                session: s,
+                outcome: Outcome::Refused(Refusal::Turn),
+            },
+        },
+    }
+}
