@@ -31,27 +31,27 @@ unfoldable pub numbers : List ℕ → (i k : ℕ) → List Float
 unfolding tab
 numbers bytes i k = tab k (λ j. number bytes (i + j))
 
-module _ (bytes : List ℕ) where
-  abbrev pub choice-of : ℕ
-  choice-of = word bytes 0
+-- "kernel 1 to 3, n, radius, epsilon, limit, g, H", in this order
+abbrev pub choice-of : List ℕ → ℕ
+choice-of bytes = word bytes 0
 
-  abbrev pub size-of : ℕ
-  size-of = word bytes 1
+abbrev pub size-of : List ℕ → ℕ
+size-of bytes = word bytes 1
 
-  abbrev pub radius-of : Float
-  radius-of = number bytes 2
+abbrev pub radius-of : List ℕ → Float
+radius-of bytes = number bytes 2
 
-  abbrev pub epsilon-of : Float
-  epsilon-of = number bytes 3
+abbrev pub epsilon-of : List ℕ → Float
+epsilon-of bytes = number bytes 3
 
-  abbrev pub limit-of : ℕ
-  limit-of = word bytes 4
+abbrev pub limit-of : List ℕ → ℕ
+limit-of bytes = word bytes 4
 
-  abbrev pub gradient-of : List Float
-  gradient-of = numbers bytes 5 size-of
+abbrev pub gradient-of : List ℕ → List Float
+gradient-of bytes = numbers bytes 5 (size-of bytes)
 
-  abbrev pub hessian-of : List Float
-  hessian-of = numbers bytes (5 + size-of) (size-of * size-of)
+abbrev pub hessian-of : List ℕ → List Float
+hessian-of bytes = numbers bytes (5 + size-of bytes) (size-of bytes * size-of bytes)
 
 -- ---- the answer
 

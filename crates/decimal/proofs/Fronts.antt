@@ -1,5 +1,5 @@
 -- A text at the front of bytes. Assumes nothing.
-use mathlib.Core.Path.{_≡_, refl, sym, ap, _∙_}
+use mathlib.Core.Path.{_≡_, sym, ap, _∙_}
 use mathlib.Core.Bool.{true, false}
 use mathlib.Core.List.{List}
 use Prim.Native.Nat.{ℕ, _+_, _≤_}
@@ -7,8 +7,8 @@ use native.Mathlib.Nat.{le-refl}
 use native.Mathlib.Omega.{arith}
 use borrow.Author.Tests.{leb-true}
 use lib.Dec.{leb}
-use lib.ListN.{length, take, drop}
-use lib.Seq.{drop-paste, paste, take-length}
+use lib.ListN.{length, drop}
+use lib.Seq.{drop-paste}
 use Rattle.words.specs.Words.{placed}
 use Rattle.words.proofs.Laws.{placed-paste, placed-not, length-placed}
 use Rattle.decimal.specs.Wrote.{Wrote}

@@ -5,10 +5,10 @@ use mathlib.Core.List.{List, [], _∷_}
 use Prim.Native.Nat.{ℕ, zero, suc, _+_, _-_, _*_, _/_, _%_, _^_, _<_, _≤_}
 use native.Mathlib.Nat.{add-comm, add-zero, mul-le-mul, mul-le-mul-left, mul-add, mul-left-comm, pow-succ', mul-assoc}
 use native.Mathlib.Omega.{arith}
-use borrow.Author.Tests.{leb-true, leb-false, le-leb, lt-leb}
+use borrow.Author.Tests.{leb-true, leb-false, le-leb}
 use lib.Dec.{leb}
 use lib.ListN.{length, drop, getD, set}
-use lib.Seq.{drop-cons, drop-set-lt, getD-set-same}
+use lib.Seq.{drop-cons, drop-set-lt}
 use Rattle.shortest.specs.Whole.{value, cap}
 
 -- ---- what is left of a number

@@ -2,12 +2,12 @@
 use mathlib.Core.Path.{_≡_, refl, sym, ap, _∙_, subst}
 use mathlib.Core.Bool.{Bool, true, false, cond}
 use Prim.Native.Nat.{ℕ, zero, suc, _+_, _-_, _*_, _/_, _%_, _^_, _<_, _≤_}
-use native.Mathlib.Nat.{mul-assoc, mul-comm, mul-one, one-mul, add-mul, pow-zero, pow-suc, pow-succ', mul-le-mul, mul-le-mul-left, mul-le-mul-right, one-le-pow, add-mul-div-right, div-eq-of-lt, add-mul-mod-self-right, mod-eq-of-lt, pow-le-pow-right}
+use native.Mathlib.Nat.{mul-assoc, mul-one, one-mul, add-mul, pow-zero, pow-suc, pow-succ', mul-le-mul, mul-le-mul-left, mul-le-mul-right, one-le-pow, add-mul-div-right, div-eq-of-lt, add-mul-mod-self-right, mod-eq-of-lt, pow-le-pow-right}
 use native.Mathlib.Numerals.{add-one}
 use lib.Pow.{pow-add}
 use native.Mathlib.Omega.{arith}
-use borrow.Author.Tests.{leb-true, leb-false, le-leb, lt-leb, lt-ltb, le-ltb, eq-eqb, ne-eqb}
-use lib.Dec.{leb, ltb, eqb, lit≤, lit<}
+use borrow.Author.Tests.{leb-false, lt-ltb, le-ltb, eq-eqb, ne-eqb}
+use lib.Dec.{leb, ltb, lit≤, lit<}
 use Rattle.shortest.specs.Whole.{cap}
 use Rattle.shortest.specs.Digits.{Digits, Found, Is, raises, lowers, ending, shortest, find, between, quarters, digits-of}
 

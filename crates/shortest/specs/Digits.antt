@@ -4,7 +4,7 @@
 -- its mantissa is even, which `odd` tells: 0 there and 1 otherwise.
 use Prim.Native.Nat.{ℕ, zero, suc, _+_, _-_, _*_, _/_, _%_, _^_, _≤_}
 use mathlib.Core.Path.{_≡_}
-use mathlib.Core.Bool.{Bool, true, false, cond}
+use mathlib.Core.Bool.{cond}
 use lib.Dec.{leb, ltb, eqb}
 
 -- ---- where the first digit stands

@@ -1,34 +1,13 @@
 -- `shortest::digits::between` meets its contract. Assumes nothing.
-use mathlib.Core.Path.{_≡_, sym, ap, _∙_}
-use Prim.Native.Nat.{ℕ, _+_, _-_, _*_, _^_, _%_, _<_, _≤_}
-use native.Mathlib.Nat.{mul-one, mul-pos, one-le-pow}
+use mathlib.Core.Path.{_≡_}
+use Prim.Native.Nat.{_-_, _*_, _^_, _≤_}
+use native.Mathlib.Nat.{mul-one, one-le-pow}
 use native.Mathlib.Omega.{arith}
-use Rattle.shortest.specs.Whole.{value, cap}
+use Rattle.shortest.specs.Whole.{value}
 use Rattle.shortest.proofs.Turns.{unit-most, number-most, below-most, number-fits, unit-fits, below-fits, below-tens, top-hundreds, between-is}
 use borrow.Author.Needs.{needs}
 use Rattle.shortest.proofs.digits.between.Statement.{statement}
 use Rattle.shortest.proofs.digits.between.Tie as tie
-
-past-requires : tie.Need-past-requires
-past-requires c κs = search needs
-
-past-requires-2 : tie.Need-past-requires-2
-past-requires-2 c κs = search needs
-
-mul-of : tie.Need-mul-of
-mul-of c = search needs
-
-of-requires : tie.Need-of-requires
-of-requires c κs = search needs
-
-of-requires-2 : tie.Need-of-requires-2
-of-requires-2 c κs = search needs
-
-of-requires-3 : tie.Need-of-requires-3
-of-requires-3 c κs = search needs
-
-slice-aggregate-shift : tie.Need-slice-aggregate-shift
-slice-aggregate-shift c = search needs
 
 shift-requires : tie.Need-shift-requires
 shift-requires c κs =
@@ -42,9 +21,6 @@ shift-requires c κs =
     let eu : value (c .before .of3 .result) ≡ 1 = c .before .of3 .ensures in
     (search needs, rw (up, er) (number-fits _ (number-most m p (start .pre .0) (start .pre .2))))
 
-slice-aggregate-shift-2 : tie.Need-slice-aggregate-shift-2
-slice-aggregate-shift-2 c = search needs
-
 shift-requires-2 : tie.Need-shift-requires-2
 shift-requires-2 c κs =
     let start = c .before .before .before .before .before .before .before .before .before in
@@ -57,9 +33,6 @@ shift-requires-2 c κs =
     let eu : value (c .before .before .before .before .of3 .result) ≡ 1 = c .before .before .before .before .of3 .ensures in
     (search needs, rw (up, eu, mul-one) (unit-fits _ (unit-most p (start .pre .2))))
 
-slice-aggregate-shift-3 : tie.Need-slice-aggregate-shift-3
-slice-aggregate-shift-3 c = search needs
-
 shift-requires-3 : tie.Need-shift-requires-3
 shift-requires-3 c κs =
     let start = c .before .before .before .before .before .before .before .before .before .before .before .before in
@@ -71,15 +44,6 @@ shift-requires-3 c κs =
     let es : value (c .before .before .before .before .before .before .before .before .of2 .result) ≡ 4 = c .before .before .before .before .before .before .before .before .of2 .ensures in
     let eu : value (c .before .before .before .before .before .before .before .of3 .result) ≡ 1 = c .before .before .before .before .before .before .before .of3 .ensures in
     (search needs, rw (down, es) (below-fits _ (below-most p (start .pre .1))))
-
-slice-aggregate-find : tie.Need-slice-aggregate-find
-slice-aggregate-find c = search needs
-
-slice-aggregate-find-2 : tie.Need-slice-aggregate-find-2
-slice-aggregate-find-2 c = search needs
-
-slice-aggregate-find-3 : tie.Need-slice-aggregate-find-3
-slice-aggregate-find-3 c = search needs
 
 find-requires : tie.Need-find-requires
 find-requires c κs =
@@ -118,21 +82,10 @@ returns c =
 pub between-spec : {M : Type 1} → statement M
 between-spec =
     tie.close
-    (tie.spec
-    past-requires
-    past-requires-2
-    mul-of
-    of-requires
-    of-requires-2
-    of-requires-3
-    slice-aggregate-shift
-    shift-requires
-    slice-aggregate-shift-2
-    shift-requires-2
-    slice-aggregate-shift-3
-    shift-requires-3
-    slice-aggregate-find
-    slice-aggregate-find-2
-    slice-aggregate-find-3
+    (tie.spec (λ c κs. search needs) (λ c κs. search needs) (λ c. search needs) (λ c κs. search needs) (λ c κs. search needs) (λ c κs. search needs)
+    (λ c. search needs)
+    shift-requires (λ c. search needs)
+    shift-requires-2 (λ c. search needs)
+    shift-requires-3 (λ c. search needs) (λ c. search needs) (λ c. search needs)
     find-requires
     returns)

@@ -1,14 +1,10 @@
 -- `shortest::digits::cut` meets its contract. The rest and what was taken away make the whole. Assumes nothing.
-use mathlib.Core.Path.{_≡_, refl, sym, ap, _∙_}
-use mathlib.Core.Bool.{true, false}
-use Prim.Native.Nat.{ℕ, _+_, _-_, _*_, _^_, _/_, _%_, _≤_, _<_}
-use native.Mathlib.Numerals.{add-one}
+use mathlib.Core.Path.{_≡_, sym, _∙_}
+use Prim.Native.Nat.{_+_, _-_, _*_, _≤_, _<_}
 use native.Mathlib.Omega.{arith}
 use borrow.Author.Tests.{leb-true, leb-false, not-true, not-false}
-use lib.Dec.{leb}
 use lib.ListN.{length}
-use Rattle.shortest.specs.Whole.{value, cap}
-use Rattle.shortest.specs.Digits.{raises, lowers}
+use Rattle.shortest.specs.Whole.{value}
 use Rattle.shortest.proofs.Turns.{single, cut-more, cut-whole, cut-rest}
 use borrow.Author.Needs.{needs}
 use Rattle.shortest.proofs.digits.cut.Statement.{statement}
@@ -23,9 +19,6 @@ abbrev μ-loop : tie.MeasureT-loop
 
 loop-holds : tie.Need-loop-holds Inv-loop μ-loop
 loop-holds c = (omega arith, omega arith, c .before .before .pre .1)
-
-at-most-requires : tie.Need-at-most-requires Inv-loop μ-loop
-at-most-requires c κs = search needs
 
 same-length : tie.Need-same-length Inv-loop μ-loop
 same-length c = c .before .before .before .before .loop .inv .2 ∙ sym (c .before .before .before .before .before .before .before .pre .1)
@@ -46,12 +39,6 @@ take-away-requires c κs =
     let r = value (head .r) in
     let s = value (start .args .s .now) in
     (omega arith, omega arith, leb-true s r (sym (single s r r (c .before .before .at-most .ensures)) ∙ not-false _ (c .before .if1 .left)))
-
-add-d : tie.Need-add-d Inv-loop μ-loop
-add-d c = omega arith
-
-loop-less : tie.Need-loop-less Inv-loop μ-loop
-loop-less c = omega arith
 
 loop-again : tie.Need-loop-again Inv-loop μ-loop
 loop-again c =
@@ -79,16 +66,4 @@ returns-2 c =
 pub cut-spec : {M : Type 1} → statement M
 cut-spec =
     tie.close
-    (tie.spec
-    Inv-loop
-    μ-loop
-    loop-holds
-    at-most-requires
-    same-length
-    returns
-    take-away-requires
-    add-d
-    loop-less
-    loop-again
-    same-length-2
-    returns-2)
+    (tie.spec Inv-loop μ-loop loop-holds (λ c κs. search needs) same-length returns take-away-requires (λ c. omega arith) (λ c. omega arith) loop-again same-length-2 returns-2)

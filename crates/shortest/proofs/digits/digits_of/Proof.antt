@@ -1,6 +1,4 @@
 -- `shortest::digits::digits_of` meets its contract. Assumes nothing.
-use mathlib.Core.Path.{_≡_}
-use Prim.Native.Nat.{ℕ, _/_, _%_, _^_}
 use native.Mathlib.Omega.{arith}
 use Rattle.shortest.proofs.Turns.{digits-none, digits-low, digits-high, is-same}
 use borrow.Author.Needs.{needs}
@@ -19,12 +17,6 @@ between-requires-2 c κs = (omega arith, omega arith, omega arith, omega arith)
 returns-2 : tie.Need-returns-2
 returns-2 c = is-same (digits-low (c .before .before .before .args .bits) (omega arith)) (c .between2 .ensures)
 
-add-between : tie.Need-add-between
-add-between c = omega arith
-
-quarters-requires : tie.Need-quarters-requires
-quarters-requires c κs = search needs
-
 between-requires-3 : tie.Need-between-requires-3
 between-requires-3 c κs = (omega arith, omega arith, omega arith, c .quarters .ensures .1)
 
@@ -34,12 +26,4 @@ returns-3 c = is-same (digits-high (c .before .before .before .before .args .bit
 pub digits-of-spec : {M : Type 1} → statement M
 digits-of-spec =
     tie.close
-    (tie.spec
-    between-requires
-    returns
-    between-requires-2
-    returns-2
-    add-between
-    quarters-requires
-    between-requires-3
-    returns-3)
+    (tie.spec between-requires returns between-requires-2 returns-2 (λ c. omega arith) (λ c κs. search needs) between-requires-3 returns-3)

@@ -1,25 +1,16 @@
 -- `shortest::digits::ending` meets its contract. Assumes nothing.
-use mathlib.Core.Path.{_≡_, refl, sym, ap, _∙_}
+use mathlib.Core.Path.{_≡_, sym, _∙_}
 use mathlib.Core.Bool.{true, false}
-use Prim.Native.Nat.{ℕ, _+_, _-_, _*_, _^_, _/_, _%_, _≤_, _<_}
-use native.Mathlib.Nat.{one-mul}
-use native.Mathlib.Numerals.{add-one}
+use Prim.Native.Nat.{_+_, _-_, _*_}
 use native.Mathlib.Omega.{arith}
 use borrow.Author.Tests.{not-true, not-false}
 use lib.Dec.{leb}
-use lib.ListN.{length}
-use Rattle.shortest.specs.Whole.{value, cap}
-use Rattle.shortest.specs.Digits.{raises, lowers, ending}
+use Rattle.shortest.specs.Whole.{value}
+use Rattle.shortest.specs.Digits.{ending}
 use Rattle.shortest.proofs.Turns.{alone, bare, ending-neither, ending-above, ending-below, ending-up, ending-down}
 use borrow.Author.Needs.{needs}
 use Rattle.shortest.proofs.digits.ending.Statement.{statement}
 use Rattle.shortest.proofs.digits.ending.Tie as tie
-
-reached-requires : tie.Need-reached-requires
-reached-requires c κs = search needs
-
-at-most-requires : tie.Need-at-most-requires
-at-most-requires c κs = search needs
 
 returns : tie.Need-returns
 returns c =
@@ -51,9 +42,6 @@ returns-3 c =
     let above : leb (s + args .odd) (r + 2 * u) ≡ false = sym (c .before .before .before .reached .ensures) ∙ not-true _ (c .if3 .taken) in
     (ending-below (args .low) (args .odd) s r u below above, omega arith)
 
-at-most-requires-2 : tie.Need-at-most-requires-2
-at-most-requires-2 c κs = search needs
-
 returns-4 : tie.Need-returns-4
 returns-4 c =
     let args = c .before .before .before .before .before .before .before .before .before .args in
@@ -79,12 +67,4 @@ returns-5 c =
 pub ending-spec : {M : Type 1} → statement M
 ending-spec =
     tie.close
-    (tie.spec
-    reached-requires
-    at-most-requires
-    returns
-    returns-2
-    returns-3
-    at-most-requires-2
-    returns-4
-    returns-5)
+    (tie.spec (λ c κs. search needs) (λ c κs. search needs) returns returns-2 returns-3 (λ c κs. search needs) returns-4 returns-5)

@@ -1,8 +1,5 @@
 -- `shortest::digits::find` meets its contract. Assumes nothing.
-use mathlib.Core.Path.{_≡_, sym, _∙_}
-use Prim.Native.Nat.{_+_, _*_, _^_}
-use native.Mathlib.Omega.{arith}
-use Rattle.shortest.specs.Whole.{value, cap}
+use Rattle.shortest.specs.Whole.{value}
 use Rattle.shortest.proofs.Turns.{find-is}
 use borrow.Author.Needs.{needs}
 use Rattle.shortest.proofs.digits.find.Statement.{statement}
@@ -26,15 +23,6 @@ shortest-requires c κs =
     let f = c .before .before .before .before .before .before .before .lower .ensures in
     ((search needs, search needs, search needs, pre .0 .3, pre .0 .4), (f .1 .1 .0, e .1 .0, f .1 .1 .1))
 
-same-length : tie.Need-same-length
-same-length c = search needs
-
-same-length-2 : tie.Need-same-length-2
-same-length-2 c = search needs
-
-same-length-3 : tie.Need-same-length-3
-same-length-3 c = search needs
-
 returns : tie.Need-returns
 returns c =
     let args = c .before .before .before .before .before .before .before .before .before .before .before .before .before .before .before .before .before .before .before .before .before .before .before .before .before .args in
@@ -46,11 +34,4 @@ returns c =
 pub find-spec : {M : Type 1} → statement M
 find-spec =
     tie.close
-    (tie.spec
-    raise-requires
-    lower-requires
-    shortest-requires
-    same-length
-    same-length-2
-    same-length-3
-    returns)
+    (tie.spec raise-requires lower-requires shortest-requires (λ c. search needs) (λ c. search needs) (λ c. search needs) returns)

@@ -1,14 +1,11 @@
 -- `shortest::digits::lower` meets its contract. The turns done and those that are left are all turns. Assumes nothing.
-use mathlib.Core.Path.{_≡_, refl, sym, ap, _∙_}
-use mathlib.Core.Bool.{true, false}
-use Prim.Native.Nat.{ℕ, _+_, _-_, _*_, _^_, _/_, _%_, _≤_, _<_}
-use native.Mathlib.Numerals.{add-one}
+use mathlib.Core.Path.{_≡_, sym, _∙_}
+use Prim.Native.Nat.{_+_, _-_, _*_, _^_, _≤_, _<_}
 use native.Mathlib.Omega.{arith}
-use borrow.Author.Tests.{leb-true, leb-false, not-true, not-false}
-use lib.Dec.{leb}
+use borrow.Author.Tests.{leb-false}
 use lib.ListN.{length}
-use Rattle.shortest.specs.Whole.{value, cap}
-use Rattle.shortest.specs.Digits.{raises, lowers}
+use Rattle.shortest.specs.Whole.{value}
+use Rattle.shortest.specs.Digits.{lowers}
 use Rattle.shortest.proofs.Turns.{power-start, power-more, never, lower-more, lower-stop}
 use borrow.Author.Needs.{needs}
 use Rattle.shortest.proofs.digits.lower.Statement.{statement}
@@ -34,9 +31,6 @@ loop-holds c =
     let r = value (start .args .r .now) in
     let u = value (start .args .u .now) in
     (omega arith, omega arith, power-start r, power-start u, start .pre .1 .0, start .pre .1 .2, start .pre .0 .1, start .pre .0 .2)
-
-at-most-requires : tie.Need-at-most-requires Inv-loop μ-loop
-at-most-requires c κs = search needs
 
 same-length : tie.Need-same-length Inv-loop μ-loop
 same-length c = c .before .before .before .before .before .loop .inv .6 ∙ sym (c .before .before .before .before .before .before .before .before .before .pre .0 .1)
@@ -73,12 +67,6 @@ times-requires-2 c κs =
     let h = leb-false (s + odd) (10 * value (head .r) + 20 * value (head .u)) t in
     (omega arith, omega arith, omega arith)
 
-add-k : tie.Need-add-k Inv-loop μ-loop
-add-k c = omega arith
-
-loop-less : tie.Need-loop-less Inv-loop μ-loop
-loop-less c = omega arith
-
 loop-again : tie.Need-loop-again Inv-loop μ-loop
 loop-again c =
     let start = c .before .before .before .before .before .before .before .before .before .before .before .before .before .before .before .before .before in
@@ -107,18 +95,7 @@ returns-2 c =
 pub lower-spec : {M : Type 1} → statement M
 lower-spec =
     tie.close
-    (tie.spec
-    Inv-loop
-    μ-loop
-    loop-holds
-    at-most-requires
-    same-length
-    same-length-2
-    returns
-    times-requires
-    times-requires-2
-    add-k
-    loop-less
+    (tie.spec Inv-loop μ-loop loop-holds (λ c κs. search needs) same-length same-length-2 returns times-requires times-requires-2 (λ c. omega arith) (λ c. omega arith)
     loop-again
     same-length-3
     same-length-4

@@ -1,7 +1,6 @@
 -- `shortest::digits::quarters` meets its contract. Assumes nothing.
 use native.Mathlib.Omega.{arith}
 use Rattle.shortest.proofs.Turns.{quarters-some, quarters-edge, quarters-first}
-use borrow.Author.Needs.{needs}
 use Rattle.shortest.proofs.digits.quarters.Statement.{statement}
 use Rattle.shortest.proofs.digits.quarters.Tie as tie
 

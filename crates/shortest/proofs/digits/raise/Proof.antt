@@ -1,14 +1,11 @@
 -- `shortest::digits::raise` meets its contract. The turns done and those that are left are all turns. Assumes nothing.
-use mathlib.Core.Path.{_≡_, refl, sym, ap, _∙_}
-use mathlib.Core.Bool.{true, false}
-use Prim.Native.Nat.{ℕ, _+_, _-_, _*_, _^_, _/_, _%_, _≤_, _<_}
-use native.Mathlib.Numerals.{add-one}
+use mathlib.Core.Path.{_≡_, sym, _∙_}
+use Prim.Native.Nat.{_+_, _-_, _*_, _^_, _≤_, _<_}
 use native.Mathlib.Omega.{arith}
 use borrow.Author.Tests.{leb-true, leb-false, not-true, not-false}
-use lib.Dec.{leb}
 use lib.ListN.{length}
 use Rattle.shortest.specs.Whole.{value, cap}
-use Rattle.shortest.specs.Digits.{raises, lowers}
+use Rattle.shortest.specs.Digits.{raises}
 use Rattle.shortest.proofs.Turns.{power-start, power-more, never, raise-more, raise-stop}
 use borrow.Author.Needs.{needs}
 use Rattle.shortest.proofs.digits.raise.Statement.{statement}
@@ -30,9 +27,6 @@ loop-holds c =
     let start = c .before .before .before in
     (omega arith, omega arith, power-start (value (start .args .s .now)), start .pre .1 .1, start .pre .0 .0)
 
-reached-requires : tie.Need-reached-requires Inv-loop μ-loop
-reached-requires c κs = search needs
-
 same-length : tie.Need-same-length Inv-loop μ-loop
 same-length c = c .before .before .before .before .loop .inv .4 ∙ sym (c .before .before .before .before .before .before .before .before .pre .0 .0)
 
@@ -52,12 +46,6 @@ times-requires c κs =
     let t = sym (c .before .before .reached .ensures) ∙ not-false _ (c .before .if1 .left) in
     let h = leb-true (value (head .s) + start .args .odd) top t in
     (omega arith, omega arith, omega arith)
-
-add-k : tie.Need-add-k Inv-loop μ-loop
-add-k c = omega arith
-
-loop-less : tie.Need-loop-less Inv-loop μ-loop
-loop-less c = omega arith
 
 loop-again : tie.Need-loop-again Inv-loop μ-loop
 loop-again c =
@@ -83,16 +71,4 @@ returns-2 c =
 pub raise-spec : {M : Type 1} → statement M
 raise-spec =
     tie.close
-    (tie.spec
-    Inv-loop
-    μ-loop
-    loop-holds
-    reached-requires
-    same-length
-    returns
-    times-requires
-    add-k
-    loop-less
-    loop-again
-    same-length-2
-    returns-2)
+    (tie.spec Inv-loop μ-loop loop-holds (λ c κs. search needs) same-length returns times-requires (λ c. omega arith) (λ c. omega arith) loop-again same-length-2 returns-2)

@@ -1,11 +1,9 @@
 -- `shortest::digits::shortest` meets its contract. What is left to find from here is what was to be found at the start. Assumes nothing.
-use mathlib.Core.Path.{_≡_, refl, sym, ap, _∙_}
-use Prim.Native.Nat.{ℕ, _+_, _-_, _*_, _^_, _/_, _%_, _≤_, _<_}
-use native.Mathlib.Numerals.{add-one}
+use mathlib.Core.Path.{_≡_, refl, sym, _∙_}
+use Prim.Native.Nat.{_+_, _-_, _*_, _^_, _≤_, _<_}
 use native.Mathlib.Omega.{arith}
-use native.Mathlib.Nat.{mod-lt}
 use lib.ListN.{length}
-use Rattle.shortest.specs.Whole.{value, cap}
+use Rattle.shortest.specs.Whole.{value}
 use Rattle.shortest.specs.Digits.{ending, shortest}
 use Rattle.shortest.proofs.Turns.{ending-open, digits-small, digits-fit, shortest-more, shortest-number, shortest-count, shortest-out}
 use borrow.Author.Needs.{needs}
@@ -51,9 +49,6 @@ add-q c =
     let most = digits-fit (c .before .before .before .before .before .before .before .before .before .before .before .before .before .loop .q) (c .before .before .before .before .before .before .before .before .before .before .before .before .before .loop .n) (c .before .before .before .before .before .before .before .before .before .before .before .before .before .loop .inv .2) (c .before .before .before .before .before .before .before .before .before .before .before .before .before .loop .inv .0) in
     omega arith
 
-add-n : tie.Need-add-n Inv-loop μ-loop
-add-n c = omega arith
-
 ending-requires : tie.Need-ending-requires Inv-loop μ-loop
 ending-requires c κs = (omega arith, search needs, search needs, omega arith, omega arith)
 
@@ -61,12 +56,6 @@ add-t23 : tie.Need-add-t23 Inv-loop μ-loop
 add-t23 c =
     let most = digits-fit (c .before .before .before .before .before .before .before .before .before .before .before .before .before .before .before .before .before .loop .q) (c .before .before .before .before .before .before .before .before .before .before .before .before .before .before .before .before .before .loop .n) (c .before .before .before .before .before .before .before .before .before .before .before .before .before .before .before .before .before .loop .inv .2) (c .before .before .before .before .before .before .before .before .before .before .before .before .before .before .before .before .before .loop .inv .0) in
     omega arith
-
-same-length : tie.Need-same-length Inv-loop μ-loop
-same-length c = search needs
-
-same-length-2 : tie.Need-same-length-2 Inv-loop μ-loop
-same-length-2 c = search needs
 
 returns : tie.Need-returns Inv-loop μ-loop
 returns c =
@@ -80,9 +69,6 @@ returns c =
     let cut = c .before .before .before .before .before .before .cut .ensures in
     let ee = c .before .ending .ensures .0 in
     (shortest-number (head .n) (args .low) (args .odd) s (head .q) (value (head .r)) (value (head .u)) _ _ _ _ _ whole (omega arith) er eu (cut .0) (cut .1) ee (head .inv .1) (c .if1 .taken), (shortest-count (head .n) (args .low) (args .odd) s (head .q) (value (head .r)) (value (head .u)) _ _ _ _ _ whole (omega arith) er eu (cut .0) (cut .1) ee (head .inv .1) (c .if1 .taken), (omega arith, omega arith)))
-
-loop-less : tie.Need-loop-less Inv-loop μ-loop
-loop-less c = omega arith
 
 loop-again : tie.Need-loop-again Inv-loop μ-loop
 loop-again c =
@@ -116,22 +102,9 @@ returns-2 c =
 pub shortest-spec : {M : Type 1} → statement M
 shortest-spec =
     tie.close
-    (tie.spec
-    Inv-loop
-    μ-loop
-    loop-holds
-    times-requires
-    times-requires-2
-    mul-q
-    cut-requires
-    add-q
-    add-n
-    ending-requires
-    add-t23
-    same-length
-    same-length-2
-    returns
-    loop-less
+    (tie.spec Inv-loop μ-loop loop-holds times-requires times-requires-2 mul-q cut-requires add-q (λ c. omega arith) ending-requires add-t23 (λ c. search needs)
+    (λ c. search needs)
+    returns (λ c. omega arith)
     loop-again
     same-length-3
     same-length-4

@@ -1,14 +1,13 @@
 -- `shortest::whole::at_most` meets its contract. What is left of both sides decides, limb by limb. Assumes nothing.
-use mathlib.Core.Path.{_≡_, refl, sym, ap, _∙_}
-use Prim.Native.Nat.{ℕ, _+_, _-_, _*_, _^_, _/_, _%_, _≤_, _<_}
+use mathlib.Core.Path.{_≡_, sym, _∙_}
+use Prim.Native.Nat.{_+_, _-_, _*_, _≤_}
 use native.Mathlib.Nat.{add-zero}
 use native.Mathlib.Numerals.{add-one}
 use native.Mathlib.Omega.{arith}
 use lib.Dec.{leb}
-use lib.ListN.{length, drop, getD}
+use lib.ListN.{drop}
 use Rattle.shortest.specs.Whole.{value}
 use Rattle.shortest.proofs.Limbs.{limb-product, compare-more, compare-end}
-use borrow.Author.Needs.{needs}
 use Rattle.shortest.proofs.whole.at_most.Statement.{statement}
 use Rattle.shortest.proofs.whole.at_most.Tie as tie
 
@@ -26,28 +25,10 @@ loop-holds : tie.Need-loop-holds Inv-loop μ-loop
 loop-holds c =
     (omega arith, omega arith, omega arith, simp add-zero)
 
-mul-wide : tie.Need-mul-wide Inv-loop μ-loop
-mul-wide c = omega arith
-
-shared-slice-read-wide : tie.Need-shared-slice-read-wide Inv-loop μ-loop
-shared-slice-read-wide c = omega arith
-
-wide-requires : tie.Need-wide-requires Inv-loop μ-loop
-wide-requires c κs = omega arith
-
 mul-x : tie.Need-mul-x Inv-loop μ-loop
 mul-x c =
     let h = limb-product (c .before .before .before .before .before .before .before .pre .4) (c .wide .ensures .1) in
     omega arith
-
-mul-wide-2 : tie.Need-mul-wide-2 Inv-loop μ-loop
-mul-wide-2 c = omega arith
-
-shared-slice-read-wide-2 : tie.Need-shared-slice-read-wide-2 Inv-loop μ-loop
-shared-slice-read-wide-2 c = omega arith
-
-wide-requires-2 : tie.Need-wide-requires-2 Inv-loop μ-loop
-wide-requires-2 c κs = omega arith
 
 mul-x-2 : tie.Need-mul-x-2 Inv-loop μ-loop
 mul-x-2 c =
@@ -65,33 +46,6 @@ add-x-2 c =
     let h = limb-product (c .before .before .before .before .before .before .before .before .before .pre .4) (c .before .before .wide .ensures .1) in
     let g = limb-product (c .before .before .before .before .before .before .before .before .before .pre .5) (c .wide2 .ensures .1) in
     omega arith
-
-add-y : tie.Need-add-y Inv-loop μ-loop
-add-y c = omega arith
-
-mul-wide-3 : tie.Need-mul-wide-3 Inv-loop μ-loop
-mul-wide-3 c = omega arith
-
-shared-slice-read-wide-3 : tie.Need-shared-slice-read-wide-3 Inv-loop μ-loop
-shared-slice-read-wide-3 c = omega arith
-
-wide-requires-3 : tie.Need-wide-requires-3 Inv-loop μ-loop
-wide-requires-3 c κs = omega arith
-
-sub-y : tie.Need-sub-y Inv-loop μ-loop
-sub-y c = omega arith
-
-sub-y-2 : tie.Need-sub-y-2 Inv-loop μ-loop
-sub-y-2 c = omega arith
-
-sub-owed : tie.Need-sub-owed Inv-loop μ-loop
-sub-owed c = omega arith
-
-add-i : tie.Need-add-i Inv-loop μ-loop
-add-i c = omega arith
-
-loop-less : tie.Need-loop-less Inv-loop μ-loop
-loop-less c = omega arith
 
 loop-again : tie.Need-loop-again Inv-loop μ-loop
 loop-again c =
@@ -114,28 +68,9 @@ returns c =
 pub at-most-spec : {M : Type 1} → statement M
 at-most-spec =
     tie.close
-    (tie.spec
-    Inv-loop
-    μ-loop
-    loop-holds
-    mul-wide
-    shared-slice-read-wide
-    wide-requires
-    mul-x
-    mul-wide-2
-    shared-slice-read-wide-2
-    wide-requires-2
-    mul-x-2
+    (tie.spec Inv-loop μ-loop loop-holds (λ c. omega arith) (λ c. omega arith) (λ c κs. omega arith) mul-x (λ c. omega arith) (λ c. omega arith) (λ c κs. omega arith) mul-x-2
     add-x
-    add-x-2
-    add-y
-    mul-wide-3
-    shared-slice-read-wide-3
-    wide-requires-3
-    sub-y
-    sub-y-2
-    sub-owed
-    add-i
-    loop-less
+    add-x-2 (λ c. omega arith) (λ c. omega arith) (λ c. omega arith) (λ c κs. omega arith) (λ c. omega arith) (λ c. omega arith) (λ c. omega arith)
+    (λ c. omega arith) (λ c. omega arith)
     loop-again
     returns)

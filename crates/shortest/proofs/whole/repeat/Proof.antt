@@ -1,9 +1,7 @@
 -- `shortest::whole::repeat` meets its contract. What is left to multiply by and what is there make the whole. Assumes nothing.
-use mathlib.Core.Path.{_≡_, refl, sym, ap, _∙_}
-use Prim.Native.Nat.{ℕ, _+_, _-_, _*_, _^_, _/_, _%_, _≤_, _<_}
-use native.Mathlib.Numerals.{add-one}
+use mathlib.Core.Path.{_≡_, refl, sym, _∙_}
+use Prim.Native.Nat.{_-_, _*_, _^_}
 use native.Mathlib.Omega.{arith}
-use native.Mathlib.Nat.{mod-lt}
 use lib.ListN.{length}
 use Rattle.shortest.specs.Whole.{value, cap}
 use Rattle.shortest.proofs.Turns.{repeat-more, repeat-fits, repeat-end}
@@ -28,12 +26,6 @@ times-requires c κs =
     let fits = rw (sym (head .inv .1)) at (c .before .before .before .before .pre .3) in
     (head .inv .0, c .before .before .before .before .pre .2, repeat-fits (args .k) (head .left) (value (head .a)) (omega arith) cap (c .before .before .before .before .pre .1) fits)
 
-sub-left : tie.Need-sub-left Inv-loop μ-loop
-sub-left c = omega arith
-
-loop-less : tie.Need-loop-less Inv-loop μ-loop
-loop-less c = omega arith
-
 loop-again : tie.Need-loop-again Inv-loop μ-loop
 loop-again c =
     let args = c .before .before .before .before .before .before .before .args in
@@ -49,13 +41,4 @@ returns c = repeat-end (c .before .before .before .args .k) (c .before .loop .le
 pub repeat-spec : {M : Type 1} → statement M
 repeat-spec =
     tie.close
-    (tie.spec
-    Inv-loop
-    μ-loop
-    loop-holds
-    times-requires
-    sub-left
-    loop-less
-    loop-again
-    same-length
-    returns)
+    (tie.spec Inv-loop μ-loop loop-holds times-requires (λ c. omega arith) (λ c. omega arith) loop-again same-length returns)

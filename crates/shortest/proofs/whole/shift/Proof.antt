@@ -1,6 +1,5 @@
 -- `shortest::whole::shift` meets its contract. Assumes nothing.
-use mathlib.Core.Path.{sym, _∙_}
-use Prim.Native.Nat.{_%_, _/_, _^_, _*_}
+use mathlib.Core.Path.{_∙_}
 use native.Mathlib.Omega.{arith}
 use Rattle.shortest.specs.Whole.{value, cap}
 use Rattle.shortest.proofs.Turns.{shift-whole, shift-fits}
@@ -19,13 +18,10 @@ repeat-requires-2 c κs =
     let whole = shift-whole (start .args .count) (value (start .args .a .now)) in
     (search needs, omega arith, omega arith, rw (c .before .before .before .repeat .ensures, whole) (start .pre .1))
 
-same-length : tie.Need-same-length
-same-length c = search needs
-
 returns : tie.Need-returns
 returns c =
     let start = c .before .before .before .before .before .before .before .before .before in
     c .before .before .repeat2 .ensures ∙ rw (c .before .before .before .before .before .before .repeat .ensures) (shift-whole (start .args .count) (value (start .args .a .now)))
 
 pub shift-spec : {M : Type 1} → statement M
-shift-spec = tie.close (tie.spec repeat-requires repeat-requires-2 same-length returns)
+shift-spec = tie.close (tie.spec repeat-requires repeat-requires-2 (λ c. search needs) returns)

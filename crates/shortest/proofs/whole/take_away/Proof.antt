@@ -1,13 +1,12 @@
 -- `shortest::whole::take_away` meets its contract. Each turn writes one limb: what is written and what is left make the difference. Assumes nothing.
-use mathlib.Core.Path.{_≡_, refl, sym, ap, _∙_}
-use Prim.Native.Nat.{ℕ, _+_, _-_, _*_, _^_, _/_, _%_, _≤_, _<_}
+use mathlib.Core.Path.{_≡_, sym, _∙_}
+use Prim.Native.Nat.{_+_, _-_, _≤_}
 use native.Mathlib.Nat.{sub-zero}
 use native.Mathlib.Numerals.{add-one}
 use native.Mathlib.Omega.{arith}
-use lib.ListN.{length, drop, getD, length-set}
+use lib.ListN.{length, drop, length-set}
 use Rattle.shortest.specs.Whole.{value}
 use Rattle.shortest.proofs.Limbs.{over, over-start, difference-fits-more, difference-more, difference-end}
-use borrow.Author.Needs.{needs}
 use Rattle.shortest.proofs.whole.take_away.Statement.{statement}
 use Rattle.shortest.proofs.whole.take_away.Tie as tie
 
@@ -25,51 +24,6 @@ abbrev μ-loop : tie.MeasureT-loop
 loop-holds : tie.Need-loop-holds Inv-loop μ-loop
 loop-holds c =
     (omega arith, omega arith, c .before .before .pre .0, omega arith, over-start _ _ ∙ sub-zero _)
-
-mul-wide : tie.Need-mul-wide Inv-loop μ-loop
-mul-wide c = omega arith
-
-slice-read-wide : tie.Need-slice-read-wide Inv-loop μ-loop
-slice-read-wide c = omega arith
-
-wide-requires : tie.Need-wide-requires Inv-loop μ-loop
-wide-requires c κs = omega arith
-
-add-x : tie.Need-add-x Inv-loop μ-loop
-add-x c = omega arith
-
-mul-wide-2 : tie.Need-mul-wide-2 Inv-loop μ-loop
-mul-wide-2 c = omega arith
-
-shared-slice-read-wide : tie.Need-shared-slice-read-wide Inv-loop μ-loop
-shared-slice-read-wide c = omega arith
-
-wide-requires-2 : tie.Need-wide-requires-2 Inv-loop μ-loop
-wide-requires-2 c κs = omega arith
-
-sub-x : tie.Need-sub-x Inv-loop μ-loop
-sub-x c = omega arith
-
-sub-x-2 : tie.Need-sub-x-2 Inv-loop μ-loop
-sub-x-2 c = omega arith
-
-cast-a : tie.Need-cast-a Inv-loop μ-loop
-cast-a c = omega arith
-
-mul-a : tie.Need-mul-a Inv-loop μ-loop
-mul-a c = omega arith
-
-slice-write-a : tie.Need-slice-write-a Inv-loop μ-loop
-slice-write-a c = omega arith
-
-sub-owed : tie.Need-sub-owed Inv-loop μ-loop
-sub-owed c = omega arith
-
-add-i : tie.Need-add-i Inv-loop μ-loop
-add-i c = omega arith
-
-loop-less : tie.Need-loop-less Inv-loop μ-loop
-loop-less c = omega arith
 
 loop-again : tie.Need-loop-again Inv-loop μ-loop
 loop-again c =
@@ -94,25 +48,8 @@ returns c =
 pub take-away-spec : {M : Type 1} → statement M
 take-away-spec =
     tie.close
-    (tie.spec
-    Inv-loop
-    μ-loop
-    loop-holds
-    mul-wide
-    slice-read-wide
-    wide-requires
-    add-x
-    mul-wide-2
-    shared-slice-read-wide
-    wide-requires-2
-    sub-x
-    sub-x-2
-    cast-a
-    mul-a
-    slice-write-a
-    sub-owed
-    add-i
-    loop-less
+    (tie.spec Inv-loop μ-loop loop-holds (λ c. omega arith) (λ c. omega arith) (λ c κs. omega arith) (λ c. omega arith) (λ c. omega arith) (λ c. omega arith) (λ c κs. omega arith) (λ c. omega arith) (λ c. omega arith)
+    (λ c. omega arith) (λ c. omega arith) (λ c. omega arith) (λ c. omega arith) (λ c. omega arith) (λ c. omega arith)
     loop-again
     same-length
     returns)

@@ -1,13 +1,12 @@
 -- `shortest::whole::times` meets its contract. Each turn writes one limb: what is written and what is left make the product. Assumes nothing.
-use mathlib.Core.Path.{_≡_, refl, sym, ap, _∙_}
-use Prim.Native.Nat.{ℕ, _+_, _-_, _*_, _^_, _/_, _%_, _≤_, _<_}
+use mathlib.Core.Path.{_≡_, sym, _∙_}
+use Prim.Native.Nat.{_+_, _-_, _*_, _≤_}
 use native.Mathlib.Nat.{add-zero}
 use native.Mathlib.Numerals.{add-one}
 use native.Mathlib.Omega.{arith}
-use lib.ListN.{length, drop, getD, length-set}
+use lib.ListN.{length, drop, length-set}
 use Rattle.shortest.specs.Whole.{value}
 use Rattle.shortest.proofs.Limbs.{over, over-start, limb-product, product-more, product-end}
-use borrow.Author.Needs.{needs}
 use Rattle.shortest.proofs.whole.times.Statement.{statement}
 use Rattle.shortest.proofs.whole.times.Tie as tie
 
@@ -22,15 +21,6 @@ loop-holds : tie.Need-loop-holds Inv-loop μ-loop
 loop-holds c =
     (omega arith, omega arith, c .before .pre .0, over-start _ _ ∙ add-zero _)
 
-mul-wide : tie.Need-mul-wide Inv-loop μ-loop
-mul-wide c = omega arith
-
-slice-read-wide : tie.Need-slice-read-wide Inv-loop μ-loop
-slice-read-wide c = omega arith
-
-wide-requires : tie.Need-wide-requires Inv-loop μ-loop
-wide-requires c κs = omega arith
-
 mul-x : tie.Need-mul-x Inv-loop μ-loop
 mul-x c =
     let h = limb-product (c .before .before .before .before .before .pre .1) (c .wide .ensures .1) in
@@ -40,21 +30,6 @@ add-x : tie.Need-add-x Inv-loop μ-loop
 add-x c =
     let h = limb-product (c .before .before .before .before .before .pre .1) (c .wide .ensures .1) in
     omega arith
-
-cast-a : tie.Need-cast-a Inv-loop μ-loop
-cast-a c = omega arith
-
-mul-a : tie.Need-mul-a Inv-loop μ-loop
-mul-a c = omega arith
-
-slice-write-a : tie.Need-slice-write-a Inv-loop μ-loop
-slice-write-a c = omega arith
-
-add-i : tie.Need-add-i Inv-loop μ-loop
-add-i c = omega arith
-
-loop-less : tie.Need-loop-less Inv-loop μ-loop
-loop-less c = omega arith
 
 loop-again : tie.Need-loop-again Inv-loop μ-loop
 loop-again c =
@@ -75,20 +50,6 @@ returns c =
 pub times-spec : {M : Type 1} → statement M
 times-spec =
     tie.close
-    (tie.spec
-    Inv-loop
-    μ-loop
-    loop-holds
-    mul-wide
-    slice-read-wide
-    wide-requires
-    mul-x
-    add-x
-    cast-a
-    mul-a
-    slice-write-a
-    add-i
-    loop-less
-    loop-again
+    (tie.spec Inv-loop μ-loop loop-holds (λ c. omega arith) (λ c. omega arith) (λ c κs. omega arith) mul-x add-x (λ c. omega arith) (λ c. omega arith) (λ c. omega arith) (λ c. omega arith) (λ c. omega arith) loop-again
     same-length
     returns)
