@@ -24,6 +24,7 @@ pub mod scripts;
 pub mod session;
 pub mod sessions;
 pub mod slips;
+pub mod smooth;
 pub mod step;
 pub mod table;
 pub mod tally;

@@ -3,8 +3,8 @@
 use oracle::step::{self, Answer};
 use oracle::tally::Tally;
 use oracle::{
-    calls, cases, damaged, decimals, fit, formulas, leaves, replay, roots, scripts, sessions, slips,
-    table,
+    calls, cases, damaged, decimals, fit, formulas, leaves, replay, roots, scripts, sessions,
+    slips, smooth, table,
 };
 use std::cell::RefCell;
 use std::env;
@@ -28,6 +28,8 @@ usage: oracle leaves [--ops K]     answer the calls on standard input, as progra
                                    in, else by the formulas
        oracle scripts COUNT SEED [KIND]
                                    write an input of program `replays` of COUNT scripts
+       oracle smooth COUNT SEED KIND
+                                   the same: fits of smooth functions, some dozen trials each
        oracle replay --many [--counts]
                                    answer it; --counts: and count the lines, on standard error
        oracle difference FILE      the first script of the input whose lines are not those in FILE
@@ -71,6 +73,10 @@ fn main() -> ExitCode {
         ["replay"] => answer_replay(),
         ["replay", "--many"] => answer_scripts(false),
         ["replay", "--many", "--counts"] => answer_scripts(true),
+        ["smooth", count, seed, kind] => match (count.parse(), seed.parse(), kind.parse()) {
+            (Ok(count), Ok(seed), Ok(kind)) => write_all(&smooth::input(count, seed, kind)),
+            _ => return usage(),
+        },
         ["difference", file] => difference(file),
         ["scripts", count, seed, kind] => match (count.parse(), seed.parse(), kind.parse()) {
             (Ok(count), Ok(seed), Ok(kind)) => write_all(&scripts::input(count, seed, Some(kind))),

@@ -101,7 +101,10 @@ fn end(station: &Station, out: &mut impl Write) -> io::Result<()> {
         Phase::Cost { .. } => "a cost is awaited",
         Phase::Derivatives => "derivatives are awaited",
     };
-    writeln!(out, "\nEnd at cost {cost}, radius {radius}, {waits}.\nPoint:")?;
+    writeln!(
+        out,
+        "\nEnd at cost {cost}, radius {radius}, {waits}.\nPoint:"
+    )?;
     for &x in &station.point.0 {
         writeln!(out, "       {}", text(x))?;
     }

@@ -1,0 +1,208 @@
+//! Inputs of program `replays`: fits of smooth functions, trial by trial, each some dozen trials long. The costs and the
+//! derivatives are those of the trial points, and some trials are answered with NaN.
+
+use crate::input::words;
+use crate::random::{with_exponent, Random};
+use crate::replay::{self, Call};
+use crate::session::{Formulas, Kind, Phase, Settings, Station};
+use crate::vector::{Matrix, Vector};
+
+/// `count` scripts of a kind of session.
+pub fn input(count: u64, seed: u64, kind: u64) -> Vec<u8> {
+    let mut random = Random::new(seed);
+    let mut bytes = Vec::new();
+    for _ in 0..count {
+        let script = script(&mut random, kind);
+        words(&mut bytes, &[script.len() as u64]);
+        words(&mut bytes, &script);
+    }
+    bytes
+}
+
+/// Half the sum of the squares of a_i·(x_i − c_i) and of b·(x_(i+1) − x_i²): a curved valley.
+struct Valley {
+    a: Vec<f64>,
+    c: Vec<f64>,
+    b: f64,
+    /// The whole second derivative, or that part of it which Gauss and Newton take.
+    whole: bool,
+}
+
+fn number(random: &mut Random, low: i64, high: i64) -> f64 {
+    let e = random.between(low, high);
+    with_exponent(random, e)
+}
+
+impl Valley {
+    fn new(random: &mut Random, n: usize) -> Valley {
+        Valley {
+            a: (0..n).map(|_| number(random, -3, 2)).collect(),
+            c: (0..n).map(|_| number(random, -2, 2)).collect(),
+            b: number(random, -2, 3),
+            whole: random.once_in(2),
+        }
+    }
+
+    /// b·(x_(i+1) − x_i²), and 0 for the last i.
+    fn bend(&self, x: &[f64], i: usize) -> f64 {
+        x.get(i + 1)
+            .map_or(0.0, |next| self.b * (next - x[i] * x[i]))
+    }
+
+    fn cost(&self, x: &[f64]) -> f64 {
+        let mut sum = 0.0;
+        for i in 0..x.len() {
+            let (off, bend) = (self.a[i] * (x[i] - self.c[i]), self.bend(x, i));
+            sum += off * off + bend * bend;
+        }
+        0.5 * sum
+    }
+
+    fn gradient(&self, x: &[f64]) -> Vector {
+        let slope = |i: usize| {
+            let before = if i > 0 {
+                self.b * self.bend(x, i - 1)
+            } else {
+                0.0
+            };
+            self.a[i] * self.a[i] * (x[i] - self.c[i]) - 2.0 * self.b * x[i] * self.bend(x, i)
+                + before
+        };
+        Vector((0..x.len()).map(slope).collect())
+    }
+
+    fn hessian(&self, x: &[f64]) -> Matrix {
+        let n = x.len();
+        let mut h = vec![0.0; n * n];
+        let bb = self.b * self.b;
+        for i in 0..n {
+            h[i * n + i] += self.a[i] * self.a[i];
+            if i + 1 < n {
+                h[i * n + i] += 4.0 * bb * x[i] * x[i];
+                if self.whole {
+                    h[i * n + i] -= 2.0 * self.b * self.bend(x, i);
+                }
+                h[(i + 1) * n + i + 1] += bb;
+                h[i * n + i + 1] = -2.0 * bb * x[i];
+                h[(i + 1) * n + i] = -2.0 * bb * x[i];
+            }
+        }
+        Matrix::new(n, h)
+    }
+}
+
+fn settings(random: &mut Random, kind: u64) -> Settings {
+    let radius = random.pick(&[1.0, 0.5, 2.5, 8.0, 0.01]);
+    Settings {
+        kind: if kind == 1 {
+            Kind::TrustRegion {
+                max_radius: random.pick(&[100.0, 4.0, 1000.0]),
+            }
+        } else {
+            Kind::Sr1 {
+                factor: 1e-8,
+                tol_grad: random.pick(&[1e-3, 1e-9]),
+            }
+        },
+        kernel: random.pick(&[1, 2, 3]),
+        radius,
+        eta: if kind == 1 {
+            random.pick(&[0.125, 0.0, 0.2])
+        } else {
+            random.pick(&[0.0005, 0.009])
+        },
+        epsilon: random.pick(&[1e-9, 1e-3]),
+        limit: random.pick(&[5, 20, 100]),
+    }
+}
+
+fn script(random: &mut Random, kind: u64) -> Vec<u64> {
+    let n = random.between(1, 4) as usize;
+    let valley = Valley::new(random, n);
+    let settings = settings(random, kind);
+    let point: Vec<f64> = (0..n).map(|_| number(random, -2, 2)).collect();
+    let (cost, gradient, hessian) = (
+        valley.cost(&point),
+        valley.gradient(&point),
+        valley.hessian(&point),
+    );
+    let mut script = vec![kind, n as u64, settings.kernel, settings.radius.to_bits()];
+    let own = match settings.kind {
+        Kind::TrustRegion { max_radius } => vec![max_radius, settings.eta],
+        Kind::Sr1 { factor, tol_grad } => vec![settings.eta, factor, tol_grad],
+    };
+    let bits = |list: &[f64]| -> Vec<u64> { list.iter().map(|x| x.to_bits()).collect() };
+    script.extend(bits(&own));
+    script.extend([settings.epsilon.to_bits(), settings.limit, cost.to_bits()]);
+    script.extend(bits(&point));
+    script.extend(bits(&gradient.0));
+    script.extend(bits(hessian.entries()));
+    let start = Station::start(settings, cost, Vector(point), gradient, hessian);
+    let Ok(mut station) = start else {
+        return script;
+    };
+    let told = n as u64;
+    for _ in 0..random.between(20, 100) {
+        let call = match station.phase {
+            Phase::Ready => {
+                script.extend([1, told]);
+                Call::Propose(told)
+            }
+            Phase::Cost { .. } => {
+                let found = valley.cost(&station.trial.0);
+                let found = if random.once_in(8) { f64::NAN } else { found };
+                let gradient = (kind == 2).then(|| valley.gradient(&station.trial.0));
+                script.extend([2, told, found.to_bits()]);
+                script.extend(gradient.iter().flat_map(|g| bits(&g.0)));
+                Call::Cost(told, found, gradient)
+            }
+            Phase::Derivatives => {
+                let (g, h) = (
+                    valley.gradient(&station.point.0),
+                    valley.hessian(&station.point.0),
+                );
+                script.extend([3, told]);
+                script.extend(bits(&g.0));
+                script.extend(bits(h.entries()));
+                Call::Derivatives(told, g, h)
+            }
+        };
+        let mut lines = Vec::new();
+        replay::run(&mut station, call, &Formulas, &mut lines).expect("memory can be written");
+        // A session that refuses here is stuck: the calls come in turn.
+        if lines.starts_with(b"refused") || lines.starts_with(b"done") {
+            break;
+        }
+    }
+    script
+}
+
+#[cfg(test)]
+mod tests {
+    use super::*;
+
+    #[test]
+    fn derivatives_are_those_of_the_cost() {
+        let mut random = Random::new(5);
+        let mut valley = Valley::new(&mut random, 3);
+        valley.whole = true;
+        let x = [0.75, -0.5, 1.25];
+        let h = 1e-5;
+        let moved = |i: usize, by: f64| {
+            let mut y = x;
+            y[i] += by;
+            y
+        };
+        for i in 0..3 {
+            let slope = (valley.cost(&moved(i, h)) - valley.cost(&moved(i, -h))) / (2.0 * h);
+            assert!((slope - valley.gradient(&x).0[i]).abs() < 1e-4 * (1.0 + slope.abs()));
+            for j in 0..3 {
+                let bend = (valley.gradient(&moved(i, h)).0[j]
+                    - valley.gradient(&moved(i, -h)).0[j])
+                    / (2.0 * h);
+                let found = valley.hessian(&x).entries()[i * 3 + j];
+                assert!((bend - found).abs() < 1e-4 * (1.0 + bend.abs()));
+            }
+        }
+    }
+}
