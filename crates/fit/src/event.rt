@@ -17,6 +17,7 @@ pub(crate) struct Judged {
 
 pub(crate) enum Event {
     Refused(Refusal),
+    Done,
     Proposed(u64),
     Accepted(Judged),
     Rejected(Judged),
@@ -29,6 +30,7 @@ pub(crate) enum Event {
 pub(crate) fn is_last(event: Event) -> bool {
     match event {
         Event::Refused(_) => false,
+        Event::Done => false,
         Event::Proposed(_) => false,
         Event::Accepted(_) => false,
         Event::Rejected(_) => false,
@@ -43,6 +45,7 @@ pub(crate) fn is_last(event: Event) -> bool {
 pub(crate) fn trials(before: u64, event: Event) -> u64 {
     match event {
         Event::Refused(_) => before,
+        Event::Done => before,
         Event::Proposed(_) => before,
         Event::Accepted(_) => std::num::wrapping_add_u64(before, 1),
         Event::Rejected(_) => std::num::wrapping_add_u64(before, 1),

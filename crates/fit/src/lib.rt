@@ -6,7 +6,9 @@ mod lines;
 mod opening;
 mod script;
 mod session;
+mod sr1_session;
 mod table;
+mod trust_region;
 
 use event::Event;
 use opening::Opening;
@@ -14,9 +16,9 @@ pub use script::Script;
 pub use script::of;
 pub use script::whole_input;
 use session::Begun;
+use session::Kind;
 use session::Session;
 use stream::Output;
-use trustregion::settings::Settings;
 ghost use mathlib.Core.Path.{_≡_};
 ghost use Prim.Native.Nat.{_-_, _*_, _≤_};
 ghost use Rattle.fit.specs.Script.{Ended};
@@ -61,14 +63,14 @@ fn opened(manner: Manner, room: &mut [u8], page: &mut [u8], script: Script, outp
     let opening = read.opening;
     let next = read.script;
     match opening {
-        Opening::Of(n, settings, cost) => {
+        Opening::Of(n, kind, cost) => {
             if n < 1 {
                 return bad(page, next, output);
             }
             if 64 < n {
                 return bad(page, next, output);
             }
-            lent(manner, room, page, n, settings, cost, next, output)
+            lent(manner, room, page, n, kind, cost, next, output)
         }
         Opening::Bad => bad(page, next, output),
     }
@@ -95,7 +97,7 @@ fn lent(
     room: &mut [u8],
     page: &mut [u8],
     n: usize,
-    settings: Settings,
+    kind: Kind,
     cost: f64,
     script: Script,
     output: Output,
@@ -123,7 +125,7 @@ fn lent(
         &mut step[0..n],
         &mut trial[0..n],
         &mut scratch[0..work],
-        settings,
+        kind,
         cost,
         script,
         output,
@@ -141,13 +143,13 @@ fn started(
     step: &mut [f64],
     trial: &mut [f64],
     scratch: &mut [f64],
-    settings: Settings,
+    kind: Kind,
     cost: f64,
     script: Script,
     output: Output,
 ) -> Ran {
     let read = opening::lists(room, script, point, gradient, hessian);
-    let begun = session::begin(settings, cost, read.cut);
+    let begun = session::begin(kind, cost, read.cut);
     let put = opening_written(manner, page, output, begun);
     let ran = match begun {
         Begun::Started(s) => calls(
@@ -253,7 +255,12 @@ fn next(
     let script = turn.script;
     let session = turn.session;
     let output = turn.output;
-    let read = call::read(room, script, answer);
+    let read = call::read(
+        room,
+        script,
+        answer,
+        session::gradient(session, point.len()),
+    );
     let call = read.call;
     let rest = read.script;
     let made = session::make(

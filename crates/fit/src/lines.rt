@@ -26,6 +26,7 @@ pub(crate) fn event(
 ) -> Output {
     match event {
         Event::Refused(r) => refused(page, output, r),
+        Event::Done => stream::put_text(page, output, b"done\n"),
         Event::Proposed(passes) => proposed(page, output, passes, step, trial),
         Event::Accepted(judged) => verdict(page, output, b"accepted ", judged),
         Event::Rejected(judged) => verdict(page, output, b"rejected ", judged),

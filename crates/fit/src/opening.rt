@@ -1,11 +1,11 @@
 // A session's start, as its words have it: kind, n, the settings, cost, point, gradient, Hessian.
 use crate::script;
 use crate::script::Script;
-use trustregion::settings::Settings;
+use crate::session::Kind;
 
-// Size, settings and cost, for a kind that there is.
+// Size, kind with its settings, and cost.
 pub(crate) enum Opening {
-    Of(usize, Settings, f64),
+    Of(usize, Kind, f64),
     Bad,
 }
 
@@ -22,6 +22,9 @@ pub(crate) fn read(room: &mut [u8], script: Script) -> Head {
     if kind.word == 1 {
         return trust_region(room, n, next);
     }
+    if kind.word == 2 {
+        return sr1(room, n, next);
+    }
     Head {
         opening: Opening::Bad,
         script: next,
@@ -35,7 +38,7 @@ fn trust_region(room: &mut [u8], n: usize, script: Script) -> Head {
     let numbers = script::numbers(room, kernel.script, &mut v);
     let limit = script::word(room, numbers);
     let cost = script::number(room, limit.script);
-    let settings = Settings {
+    let settings = trustregion::settings::Settings {
         kernel: kernel.word,
         radius: v[0],
         max_radius: v[1],
@@ -45,7 +48,30 @@ fn trust_region(room: &mut [u8], n: usize, script: Script) -> Head {
     };
     let next = cost.script;
     Head {
-        opening: Opening::Of(n, settings, cost.number),
+        opening: Opening::Of(n, Kind::TrustRegion(settings), cost.number),
+        script: next,
+    }
+}
+
+// kernel, radius, eta, factor, tol_grad, epsilon, limit; and the cost
+fn sr1(room: &mut [u8], n: usize, script: Script) -> Head {
+    let mut v = [0.0; 5];
+    let kernel = script::word(room, script);
+    let numbers = script::numbers(room, kernel.script, &mut v);
+    let limit = script::word(room, numbers);
+    let cost = script::number(room, limit.script);
+    let settings = sr1::settings::Settings {
+        kernel: kernel.word,
+        radius: v[0],
+        eta: v[1],
+        factor: v[2],
+        tol_grad: v[3],
+        epsilon: v[4],
+        limit: limit.word,
+    };
+    let next = cost.script;
+    Head {
+        opening: Opening::Of(n, Kind::Sr1(settings), cost.number),
         script: next,
     }
 }

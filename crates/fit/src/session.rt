@@ -1,17 +1,20 @@
-// The calls of a TrustRegion session, by value, and what happened in each.
+// The calls of both kinds of session, by value, and what happened in each.
 use crate::call::Call;
-use crate::event::Awaits;
 use crate::event::Event;
-use crate::event::Judged;
-use trustregion::session::After;
-use trustregion::session::Outcome;
-use trustregion::session::Phase;
-use trustregion::session::Start;
-use trustregion::settings::Settings;
-use trustregion::trustregion_method;
+use crate::sr1_session;
+use crate::trust_region;
 use vectors::refusal::Refusal;
 
-pub(crate) type Session = trustregion::session::Session;
+// The settings that a session starts with.
+pub(crate) enum Kind {
+    TrustRegion(trustregion::settings::Settings),
+    Sr1(sr1::settings::Settings),
+}
+
+pub(crate) enum Session {
+    TrustRegion(trustregion::session::Session),
+    Sr1(sr1::session::Session),
+}
 
 pub(crate) enum Begun {
     Bad,
@@ -25,14 +28,35 @@ pub(crate) struct Made {
 }
 
 // A start whose words were not all there is bad, whatever the others say.
-pub(crate) fn begin(settings: Settings, cost: f64, cut: bool) -> Begun {
+pub(crate) fn begin(kind: Kind, cost: f64, cut: bool) -> Begun {
     if cut {
         return Begun::Bad;
     }
-    let start = trustregion_method::start(settings, cost);
-    match start {
-        Start::Refused(r) => Begun::Refused(r),
-        Start::Started(s) => Begun::Started(s),
+    match kind {
+        Kind::TrustRegion(settings) => trust_region::begin(settings, cost),
+        Kind::Sr1(settings) => sr1_session::begin(settings, cost),
+    }
+}
+
+// How many numbers come with a cost, in a session of size n.
+pub(crate) fn gradient(session: Session, n: usize) -> usize {
+    match session {
+        Session::TrustRegion(_) => 0,
+        Session::Sr1(_) => n,
+    }
+}
+
+pub(crate) fn cost(session: Session) -> f64 {
+    match session {
+        Session::TrustRegion(s) => s.cost,
+        Session::Sr1(s) => s.cost,
+    }
+}
+
+pub(crate) fn radius(session: Session) -> f64 {
+    match session {
+        Session::TrustRegion(s) => s.radius,
+        Session::Sr1(s) => s.radius,
     }
 }
 
@@ -47,123 +71,39 @@ pub(crate) fn make(
     trial: &mut [f64],
     scratch: &mut [f64],
 ) -> Made {
-    match call {
-        Call::Propose(n) => {
-            let after = trustregion_method::proposed(
-                session,
-                n,
+    match session {
+        Session::TrustRegion(s) => {
+            trust_region::make(
+                s,
+                call,
+                answer,
                 point,
                 gradient,
                 hessian,
                 step,
                 trial,
                 scratch,
-            );
-            told(after, 0.0)
+            )
         }
-        Call::Cost(n, cost) => {
-            let after = trustregion_method::judged(session, n, cost, point, trial);
-            told(after, cost)
+        Session::Sr1(s) => {
+            sr1_session::make(
+                s,
+                call,
+                answer,
+                point,
+                gradient,
+                hessian,
+                step,
+                trial,
+                scratch,
+            )
         }
-        Call::Derivatives(n) => {
-            let after = renewed(session, n, answer, gradient, hessian);
-            told(after, 0.0)
-        }
-        Call::Put(radius, cost, awaits) => changed(session, radius, cost, awaits),
-        Call::End => ended(session),
-        Call::Bad => Made {
-            session,
-            event: Event::Bad,
-        },
     }
 }
 
-// The gradient stands at the front of the answer, and the Hessian behind it.
-fn renewed(
-    session: Session,
-    n: usize,
-    answer: &[f64],
-    gradient: &mut [f64],
-    hessian: &mut [f64],
-) -> After {
-    let size = gradient.len();
-    trustregion_method::renewed(
-        session,
-        n,
-        front(answer, size),
-        behind(answer, size),
-        gradient,
-        hessian,
-    )
-}
-
-fn front(v: &[f64], n: usize) -> &[f64] {
+pub(crate) fn front(v: &[f64], n: usize) -> &[f64] {
     if n <= v.len() {
         return &v[0..n];
     }
     v
-}
-
-fn behind(v: &[f64], n: usize) -> &[f64] {
-    if n <= v.len() {
-        return &v[n..];
-    }
-    v
-}
-
-// What a call came to; `cost` is that of the trial.
-fn told(after: After, cost: f64) -> Made {
-    let session = after.session;
-    let outcome = after.outcome;
-    let radius = session.radius;
-    let event = match outcome {
-        Outcome::Refused(r) => Event::Refused(r),
-        Outcome::Proposed(passes) => Event::Proposed(passes),
-        Outcome::Accepted(ratio) => Event::Accepted(Judged {
-            cost,
-            ratio,
-            radius,
-        }),
-        Outcome::Rejected(ratio) => Event::Rejected(Judged {
-            cost,
-            ratio,
-            radius,
-        }),
-        Outcome::Taken => Event::Taken,
-    };
-    Made { session, event }
-}
-
-// As a caller can change what is its own.
-fn changed(session: Session, radius: f64, cost: f64, awaits: Awaits) -> Made {
-    let settings = session.settings;
-    let phase = match awaits {
-        Awaits::Proposal => Phase::Ready,
-        Awaits::Cost(model, norm) => Phase::AwaitingCost(model, norm),
-        Awaits::Derivatives => Phase::AwaitingDerivatives,
-    };
-    Made {
-        session: Session {
-            settings,
-            radius,
-            cost,
-            phase,
-        },
-        event: Event::Changed,
-    }
-}
-
-fn ended(session: Session) -> Made {
-    let radius = session.radius;
-    let cost = session.cost;
-    let phase = session.phase;
-    let awaits = match phase {
-        Phase::Ready => Awaits::Proposal,
-        Phase::AwaitingCost(model, norm) => Awaits::Cost(model, norm),
-        Phase::AwaitingDerivatives => Awaits::Derivatives,
-    };
-    Made {
-        session,
-        event: Event::Ended(radius, cost, awaits),
-    }
 }

@@ -3,6 +3,7 @@
 use crate::event::Awaits;
 use crate::event::Event;
 use crate::event::Judged;
+use crate::session;
 use crate::session::Begun;
 use crate::session::Session;
 use stream::Output;
@@ -20,8 +21,8 @@ pub(crate) fn begun(page: &mut [u8], output: Output, begun: Begun) -> Output {
 }
 
 fn started(page: &mut [u8], output: Output, s: Session) -> Output {
-    let cost = s.cost;
-    let radius = s.radius;
+    let cost = session::cost(s);
+    let radius = session::radius(s);
     let said = stream::put_text(page, output, b"Start at cost ");
     let told = number(page, said, cost);
     let between = stream::put_text(page, told, b", radius ");
@@ -46,6 +47,11 @@ pub(crate) fn event(
             let said = stream::put_text(page, output, b"       a call is ");
             refused(page, said, r)
         }
+        Event::Done => stream::put_text(
+            page,
+            output,
+            b"       the gradient is below the tolerance: done\n",
+        ),
         Event::Proposed(_) => output,
         Event::Accepted(judged) => verdict(page, output, count, b"accepted  ", judged),
         Event::Rejected(judged) => rejected(page, output, count, judged),
