@@ -25,6 +25,7 @@ pub mod session;
 pub mod sessions;
 pub mod slips;
 pub mod smooth;
+pub mod special;
 pub mod step;
 pub mod table;
 pub mod tally;

@@ -4,7 +4,7 @@ use oracle::step::{self, Answer};
 use oracle::tally::Tally;
 use oracle::{
     calls, cases, damaged, decimals, fit, formulas, leaves, replay, roots, scripts, sessions,
-    slips, smooth, table,
+    slips, smooth, special, table,
 };
 use std::cell::RefCell;
 use std::env;
@@ -30,6 +30,7 @@ usage: oracle leaves [--ops K]     answer the calls on standard input, as progra
                                    write an input of program `replays` of COUNT scripts
        oracle smooth COUNT SEED KIND
                                    the same: fits of smooth functions, some dozen trials each
+       oracle special              the same: ten marked sessions of SR1TrustRegion
        oracle replay --many [--counts]
                                    answer it; --counts: and count the lines, on standard error
        oracle difference FILE      the first script of the input whose lines are not those in FILE
@@ -77,6 +78,7 @@ fn main() -> ExitCode {
             (Ok(count), Ok(seed), Ok(kind)) => write_all(&smooth::input(count, seed, kind)),
             _ => return usage(),
         },
+        ["special"] => write_all(&special::input()),
         ["difference", file] => difference(file),
         ["scripts", count, seed, kind] => match (count.parse(), seed.parse(), kind.parse()) {
             (Ok(count), Ok(seed), Ok(kind)) => write_all(&scripts::input(count, seed, Some(kind))),

@@ -1,0 +1,118 @@
+//! Scripts of SR1TrustRegion sessions that chance would hardly make, for program `replays`.
+
+use crate::input::words;
+
+/// A script of size 2, with the identity for a Hessian and the Cauchy point for a kernel.
+struct Script(Vec<u64>);
+
+impl Script {
+    fn start(radius: f64, tol_grad: f64, cost: f64, gradient: [f64; 2]) -> Script {
+        let mut script = Script(vec![2, 2, 1]);
+        script.numbers(&[radius, 0.0005, 1e-8, tol_grad, 1e-9]);
+        script.0.push(5);
+        script.numbers(&[cost, 0.0, 0.0]);
+        script.numbers(&gradient);
+        script.numbers(&[1.0, 0.0, 0.0, 1.0]);
+        script
+    }
+
+    fn numbers(&mut self, numbers: &[f64]) {
+        self.0.extend(numbers.iter().map(|x| x.to_bits()));
+    }
+
+    fn propose(mut self) -> Script {
+        self.0.extend([1, 2]);
+        self
+    }
+
+    fn answer(mut self, cost: f64, gradient: [f64; 2]) -> Script {
+        self.0.extend([2, 2]);
+        self.numbers(&[cost]);
+        self.numbers(&gradient);
+        self
+    }
+
+    /// The session awaits a cost, with this radius, cost, predicted fall and step norm.
+    fn awaiting(mut self, radius: f64, cost: f64, predicted: f64, norm: f64) -> Script {
+        self.0.push(4);
+        self.numbers(&[radius, cost]);
+        self.0.push(1);
+        self.numbers(&[predicted, norm]);
+        self
+    }
+}
+
+/// All of them, each with its length before it.
+pub fn input() -> Vec<u8> {
+    let least = f64::from_bits(1);
+    let scripts = [
+        // Marked cases 14 and 15, from a proposal: s is (1, 0).
+        Script::start(1.0, 1e-3, 10.0, [-1.0, 0.0])
+            .propose()
+            .answer(9.5, [2.0, 0.0]),
+        Script::start(1.0, 1e-3, 10.0, [-1.0, 0.0])
+            .propose()
+            .answer(9.5, [0.0, 1.0])
+            .propose(),
+        // A NaN cost that updates the Hessian; the radius halves, and the next proposal goes by the new Hessian.
+        Script::start(1.0, 1e-3, 10.0, [-3.0, -4.0])
+            .propose()
+            .answer(f64::NAN, [1.0, 2.0])
+            .propose()
+            .answer(9.0, [0.5, -0.25])
+            .propose(),
+        // The radius halves down to 0, and the next proposal is refused by it.
+        Script::start(1.0, 1e-3, 10.0, [-3.0, -4.0])
+            .propose()
+            .awaiting(4.0 * least, 10.0, 1.0, 1.0)
+            .answer(11.0, [1.0, 2.0])
+            .awaiting(2.0 * least, 10.0, 1.0, 1.0)
+            .answer(11.0, [1.0, 3.0])
+            .awaiting(least, 10.0, 1.0, 1.0)
+            .answer(11.0, [2.0, 3.0])
+            .propose(),
+        // Doubling overflows: refusal 8, and the cost is still awaited.
+        Script::start(1.0, 1e-3, 10.0, [-3.0, -4.0])
+            .propose()
+            .awaiting(1.5e308, 1.0, 1.0, 1.4e308)
+            .answer(0.0, [1.0, 2.0])
+            .answer(0.5, [1.0, 2.0])
+            .propose(),
+        // ‖s‖ = 0.8·radius keeps the radius, the next number above it doubles it; 0.1 and 0.75 keep it.
+        Script::start(1.0, 1e-3, 10.0, [-3.0, -4.0])
+            .propose()
+            .awaiting(10.0, 1.0, 1.0, 8.0)
+            .answer(0.0, [1.0, 2.0])
+            .awaiting(10.0, 1.0, 1.0, 8f64.next_up())
+            .answer(0.0, [1.0, 3.0])
+            .awaiting(10.0, 0.1, 1.0, 1.0)
+            .answer(0.0, [1.0, 4.0])
+            .awaiting(10.0, 0.75, 1.0, 9.0)
+            .answer(0.0, [2.0, 4.0]),
+        // Done: at the start, after an acceptance, and at a radius of 0, which is looked at later.
+        Script::start(1.0, 5.0, 10.0, [-3.0, -3.0])
+            .propose()
+            .propose(),
+        Script::start(1.0, 5.0, 10.0, [-3.0, -4.0])
+            .propose()
+            .answer(9.0, [3.0, 3.0])
+            .propose(),
+        Script::start(1.0, 5.0, 10.0, [-3.0, -4.0])
+            .propose()
+            .awaiting(least, 10.0, 1.0, 1.0)
+            .answer(9.0, [3.0, 3.0])
+            .awaiting(least, 9.0, 1.0, 1.0)
+            .answer(10.0, [3.0, 2.0])
+            .propose(),
+        // A radius below zero is taken by magnitude.
+        Script::start(-2.5, 1e-3, 10.0, [-3.0, -4.0])
+            .propose()
+            .answer(9.0, [1.0, 2.0]),
+    ];
+    let mut bytes = Vec::new();
+    for Script(script) in scripts {
+        words(&mut bytes, &[script.len() as u64]);
+        words(&mut bytes, &script);
+    }
+    bytes
+}
