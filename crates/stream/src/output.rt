@@ -15,7 +15,8 @@ pub struct Output {
 pub fn top() -> Output
     ensures { λ r. ⌜ r .at ≡ 0 ⌝ }
 {
-    Output { at: 0 }
+    let at = 0;
+    Output { at }
 }
 
 // Puts a text on the page. Where it has no room there, what is on the page leaves first; a text longer
