@@ -1,5 +1,5 @@
 -- What a case's answer leaves in the lists that were lent, from what the kernel leaves in their fronts. Assumes nothing.
-use mathlib.Core.Path.{_≡_, refl, sym, _∙_, ap}
+use mathlib.Core.Path.{_≡_, sym, _∙_, ap}
 use mathlib.Core.Bool.{Bool, true, false, cond, _&&_}
 use mathlib.Core.List.{List, [], _∷_, _++_}
 use Prim.Native.Nat.{ℕ, _+_, _*_, _≤_}
@@ -9,7 +9,7 @@ use lib.ListN.{length, take, drop, take-append-drop}
 use lib.Seq.{length-take-le}
 use lib.Ieee.{Float}
 use borrow.Author.Tests.{leb-true}
-use Rattle.vectors.specs.Refusal.{Answer, refused, given, Check, unless, size, room, Square, Roomy, left-in, scratch-after}
+use Rattle.vectors.specs.Refusal.{Answer, refused, given, Check, unless, size, room, Square, Roomy, left-in}
 use Rattle.kernels.specs.Kernel.{Made, Proper, Took}
 use Rattle.kernels.specs.Choice.{kernel}
 use Rattle.vectors.specs.declared.refusal.Refusal.{Refusal}
@@ -136,8 +136,3 @@ module _ (bytes : List ℕ) (g H step w : List Float) where
           → Answered bytes r g (g′ ++ drop a g) H (H′ ++ drop b H) step (s ++ drop a step) w (w′ ++ drop d w)
       answered m a b d r found g′ H′ s w′ i p q o tells t =
           rw (tells, p, q, o, i) (answered-whole found s w′ g′ H′ (rw (p, o, i) at (t .0)) (rw i at (t .1)) (rw i at (t .2)))
-
--- any two results that meet the contract are the same
-pub answered-same : (bytes : List ℕ) (r r₂ : Said) (g g′ g″ H H′ H″ s s′ s″ w w′ w″ : List Float)
-    → Answered bytes r g g′ H H′ s s′ w w′ → Answered bytes r₂ g g″ H H″ s s″ w w″ → (r ≡ r₂) × (g′ ≡ g″) × (H′ ≡ H″) × (s′ ≡ s″) × (w′ ≡ w″)
-answered-same bytes r r₂ g g′ g″ H H′ H″ s s′ s″ w w′ w″ p q = (cc, cc, cc, cc, cc)

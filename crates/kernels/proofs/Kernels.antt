@@ -193,10 +193,3 @@ module _ (n : ℕ) (found r : Stepped) (step step′ w w₁ w′ : List Float) (
       → Proper n (kernel n radius g H) → Laid (kernel n radius g H) found w w₁ → Took (called settings kernel n radius g H step w) r step step′ w w′
   unfolding called
   took settings kernel radius g H v j e p laid = rw (unless-passed (kernel-checks settings n radius g H step w) (kernel n radius g H) (sym j ∙ e)) (took-one (kernel n radius g H) p laid)
-
--- any two results that meet a contract are the same
-pub took-same : (a : Answer Made) (r r₂ : Stepped) (s s′ s″ w w′ w″ : List Float) → Took a r s s′ w w′ → Took a r₂ s s″ w w″ → (r ≡ r₂) × (s′ ≡ s″) × (w′ ≡ w″)
-took-same a r r₂ s s′ s″ w w′ w″ p q = (cc, cc, cc)
-
-pub laid-one : (a : Answer Made) (r r₂ : Stepped) (w w′ w″ : List Float) → Laid a r w w′ → Laid a r₂ w w″ → (r ≡ r₂) × (w′ ≡ w″)
-laid-one a r r₂ w w′ w″ p q = (cc, cc)

@@ -1,5 +1,5 @@
--- The calls of a run are the calls of the code: each meets the predicate that the code's contract states, and any two results that meet it are the same. Assumes nothing.
-use mathlib.Core.Path.{_≡_, refl, sym, _∙_}
+-- The calls of a run are the calls of the code: each meets the predicate that the code's contract states, which has one result (crates/unique). Assumes nothing.
+use mathlib.Core.Path.{refl}
 use mathlib.Core.List.{List}
 use Prim.Native.Nat.{ℕ}
 use lib.Ieee.{Float}
@@ -9,10 +9,7 @@ use Rattle.trustregion.specs.Session.{Proposal, Judgement, Renewal}
 use Rattle.trustregion.specs.Calls.{Proposes, Judges, Renews}
 use Rattle.trustregion.specs.Run.{Station, propose, cost, derivatives, outcome, Done, on-proposal, on-judgement, on-renewal, proposal-at, judgement-at, renewal-at, respond}
 use Rattle.trustregion.specs.declared.settings.Settings.{Settings}
-use Rattle.trustregion.specs.declared.session.Session.{Session}
 use Rattle.trustregion.specs.declared.session.After.{After}
-
--- ---- a run's calls
 
 -- what the code returns where a run has d
 abbrev pub returns : Done → After
@@ -47,21 +44,3 @@ module _ (kernel : Settings → Kernel) (s : Station) (n : ℕ) where
       go : (a : Answer Renewal) → let d = on-renewal s a in Renews a (s .session) (s .lent .gradient) (s .lent .hessian) (returns d) (d .after .lent .gradient) (d .after .lent .hessian)
       go (refused r) = record { says = refl; leaves-gradient = refl; leaves-hessian = refl }
       go (given x) = record { says = refl; leaves-gradient = refl; leaves-hessian = refl }
-
--- ---- one result
-
-module _ (s : Session) (r₁ r₂ : After) where
-  pub proposes-one : (a : Answer Proposal) (step trial scratch step₁ trial₁ scratch₁ step₂ trial₂ scratch₂ : List Float)
-      → Proposes a s step trial scratch r₁ step₁ trial₁ scratch₁ → Proposes a s step trial scratch r₂ step₂ trial₂ scratch₂
-      → ((r₁ ≡ r₂) × (step₁ ≡ step₂)) × ((trial₁ ≡ trial₂) × (scratch₁ ≡ scratch₂))
-  proposes-one a step trial scratch step₁ trial₁ scratch₁ step₂ trial₂ scratch₂ x y =
-      ((x .says ∙ sym (y .says), x .leaves-step ∙ sym (y .leaves-step)), (x .leaves-trial ∙ sym (y .leaves-trial), x .leaves-scratch ∙ sym (y .leaves-scratch)))
-
-  pub judges-one : (a : Answer Judgement) (point point₁ point₂ : List Float) → Judges a s point r₁ point₁ → Judges a s point r₂ point₂ → (r₁ ≡ r₂) × (point₁ ≡ point₂)
-  judges-one a point point₁ point₂ x y = (x .says ∙ sym (y .says), x .leaves-point ∙ sym (y .leaves-point))
-
-  pub renews-one : (a : Answer Renewal) (gradient hessian gradient₁ hessian₁ gradient₂ hessian₂ : List Float)
-      → Renews a s gradient hessian r₁ gradient₁ hessian₁ → Renews a s gradient hessian r₂ gradient₂ hessian₂
-      → (r₁ ≡ r₂) × ((gradient₁ ≡ gradient₂) × (hessian₁ ≡ hessian₂))
-  renews-one a gradient hessian gradient₁ hessian₁ gradient₂ hessian₂ x y =
-      (x .says ∙ sym (y .says), (x .leaves-gradient ∙ sym (y .leaves-gradient), x .leaves-hessian ∙ sym (y .leaves-hessian)))

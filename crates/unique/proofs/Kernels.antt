@@ -1,0 +1,23 @@
+-- crates/kernels: each contract has one result. Assumes nothing.
+use mathlib.Core.Path.{_≡_, refl}
+use mathlib.Core.List.{List, [], _∷_}
+use lib.Ieee.{Float}
+use Rattle.vectors.specs.Refusal.{Answer}
+use Rattle.kernels.specs.Kernel.{Made, Took}
+use Rattle.kernels.specs.declared.kernel.Stepped.{Stepped}
+use Rattle.unique.proofs.Law.{Line, unique, equation, alike, _&_}
+use Rattle.unique.proofs.Vectors.{wrote}
+use Rattle.kernels.proofs as kernels
+
+took : {a : Answer Made} {r r₂ : Stepped} {s s′ s″ w w′ w″ : List Float} → Took a r s s′ w w′ → Took a r₂ s s″ w w″ → (r ≡ r₂) × (s′ ≡ s″) × (w′ ≡ w″)
+took p q = (alike (p .says) (q .says), alike (p .leaves) (q .leaves), alike (p .clears) (q .clears))
+
+pub table : List Line
+table =
+    equation kernels.«reduction_ratio».ended (λ M. kernels.«reduction_ratio».spec) (λ w κs a g r. refl) (λ κs a s s₂. refl)
+    ∷ unique kernels.inverse.inverse.ended (λ M. kernels.inverse.inverse.spec) (λ w κs a g r. refl) (λ κs a r r₂ s s₂ p q. let e = wrote (p .wrote) (q .wrote) in (e .0, λ i. tt & tt & e .1 i & alike (p .clears) (q .clears) i & tt))
+    ∷ unique kernels.cauchypoint.«cauchy_point».ended (λ M. kernels.cauchypoint.«cauchy_point».spec) (λ w κs a g r. refl) (λ κs a r r₂ s s₂ p q. let e = took p q in (e .0, λ i. tt & tt & tt & tt & e .1 i & e .2 i & tt))
+    ∷ unique kernels.dogleg.dogleg.ended (λ M. kernels.dogleg.dogleg.spec) (λ w κs a g r. refl) (λ κs a r r₂ s s₂ p q. let e = took p q in (e .0, λ i. tt & tt & tt & tt & e .1 i & e .2 i & tt))
+    ∷ unique kernels.steihaug.steihaug.ended (λ M. kernels.steihaug.steihaug.spec) (λ w κs a g r. refl) (λ κs a r r₂ s s₂ p q. let e = took p q in (e .0, λ i. tt & tt & tt & tt & tt & tt & e .1 i & e .2 i & tt))
+    ∷ unique kernels.choice.lay.ended (λ M. kernels.choice.lay.spec) (λ w κs a g r. refl) (λ κs a r r₂ s s₂ p q. (alike (p .says) (q .says), λ i. tt & tt & tt & tt & tt & tt & tt & alike (p .lays) (q .lays) i & tt))
+    ∷ []

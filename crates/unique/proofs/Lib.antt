@@ -1,0 +1,14 @@
+pub mod Law
+pub mod Float
+pub mod Root
+pub mod Vectors
+pub mod Kernels
+pub mod Offer
+pub mod TrustRegion
+pub mod Sr1
+pub mod Foreign
+pub mod Words
+pub mod Stream
+pub mod Case
+pub mod Shortest
+pub mod Fit

@@ -1,0 +1,1 @@
+// Every promise has one result: no code, proofs/ alone.
