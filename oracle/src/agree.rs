@@ -4,7 +4,6 @@ use crate::argmin_sessions::Argmin;
 use crate::cases::Cases;
 use crate::session::Formulas;
 use crate::step::{self, Answer};
-use crate::tally::Tally;
 use crate::{argmin_kernels, formulas, replay, sessions};
 use std::collections::BTreeMap;
 use std::io::{self, Write};
@@ -14,12 +13,12 @@ const SHOWN: u64 = 20;
 
 /// Compares the answers to `count` cases and writes differences and counts. True if there are none.
 pub fn report(count: u64, seed: u64, out: &mut impl Write) -> io::Result<bool> {
-    let mut tally = Tally::default();
+    let mut tally = step::tally();
     let mut differing = 0;
     for (number, case) in Cases::new(seed).take(count as usize).enumerate() {
         let by_argmin = step::answer(&case, argmin_kernels::solve);
         let by_formulas = step::answer(&case, formulas::solve);
-        tally.add(&case, &by_argmin);
+        step::count(&mut tally, &case, &by_argmin);
         if !by_argmin.same(&by_formulas) {
             differing += 1;
             if differing <= SHOWN {

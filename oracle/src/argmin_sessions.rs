@@ -46,6 +46,7 @@ fn trust_region(station: &Station, tried: &Tried, max_radius: f64) -> Result<Ver
     let answers = problem.take_problem().ok_or("the problem was put back")?;
     // It asks for derivatives where it accepts, and only there.
     let accepted = answers.gradients.borrow().is_empty();
+    check_end(&state, station, tried, accepted)?;
     Ok(Verdict {
         ratio: reduction_ratio(station.cost, tried.cost, station.cost, tried.promised),
         accepted,
@@ -53,6 +54,27 @@ fn trust_region(station: &Station, tried: &Tried, max_radius: f64) -> Result<Ver
         hessian: None,
         point: state.take_param(),
     })
+}
+
+/// argmin's own cost and gradient after a trial are the trial's where it is accepted, and otherwise
+/// the session's. (The point and the Hessian are handed on, and compared there.)
+fn check_end(
+    state: &KernelState,
+    station: &Station,
+    tried: &Tried,
+    accepted: bool,
+) -> Result<(), Error> {
+    let bits = |list: &[f64]| list.iter().map(|x| x.to_bits()).collect::<Vec<_>>();
+    let (cost, gradient) = match tried.gradient {
+        Some(gradient) if accepted => (tried.cost, gradient),
+        None if accepted => (tried.cost, &station.gradient),
+        _ => (station.cost, &station.gradient),
+    };
+    let end = state.get_gradient().ok_or("a state without a gradient")?;
+    if bits(&[state.get_cost()]) != bits(&[cost]) || bits(&end.0) != bits(&gradient.0) {
+        return Err("argmin ends a trial with another cost or gradient".into());
+    }
+    Ok(())
 }
 
 /// A solver's radius is not to be seen, but its next iteration begins by telling it to the kernel,
@@ -82,9 +104,11 @@ fn sr1(station: &Station, tried: &Tried, factor: f64, tol_grad: f64) -> Result<V
     let told = told.ok_or("an iteration that tells nothing")?;
     let tell = |name| told.get(name).ok_or("an iteration that does not tell all");
     let ratio = tell("ap")?;
+    let accepted = ratio > station.settings.eta;
+    check_end(&state, station, tried, accepted)?;
     Ok(Verdict {
         ratio,
-        accepted: ratio > station.settings.eta,
+        accepted,
         radius: tell("radius")?,
         hessian: state.take_hessian(),
         point: state.take_param(),

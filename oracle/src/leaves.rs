@@ -1,6 +1,7 @@
 //! Program `leaves`, answered independently: the calls of the leaf functions, a line for each.
 
 use crate::input::{LONGEST_LENT, LONGEST_LIST};
+use crate::tally::{Tally, ANSWERS};
 use crate::vector::{root, Matrix, Vector};
 use std::io::{self, Write};
 
@@ -17,11 +18,36 @@ enum Answer {
 
 use Answer::{Is, Refused};
 
-/// Writes the line of each call in `input`. Call numbers above `operations` are unknown.
-pub fn answer(input: &[u8], operations: u64, out: &mut impl Write) -> io::Result<()> {
+/// The table's rows: the calls by their number, from 1 on, and all of them.
+const ROWS: [&str; 9] = [
+    "root",
+    "ratio",
+    "dot",
+    "norm",
+    "weighted dot",
+    "product",
+    "inverse",
+    "row",
+    "all",
+];
+
+/// Writes the line of each call in `input`, and counts them. Call numbers above `operations` are
+/// unknown; bad input is no answer.
+pub fn answer(input: &[u8], operations: u64, out: &mut impl Write) -> io::Result<Tally> {
+    let mut tally = Tally::new(&ROWS, &ANSWERS);
     let mut reader = Reader(input);
     while !reader.0.is_empty() {
-        match call(&mut reader, operations) {
+        let number = Reader(reader.0).word();
+        let answer = call(&mut reader, operations);
+        if let (Some(number), Some(answer)) = (number, &answer) {
+            let column = match answer {
+                Is(_) => 0,
+                Refused(k) => usize::from(*k),
+            };
+            tally.add(ROWS[number as usize - 1], column, 1);
+            tally.add("all", column, 1);
+        }
+        match answer {
             Some(Is(numbers)) => {
                 write!(out, "is")?;
                 for x in numbers {
@@ -30,10 +56,13 @@ pub fn answer(input: &[u8], operations: u64, out: &mut impl Write) -> io::Result
                 writeln!(out)?;
             }
             Some(Refused(k)) => writeln!(out, "refused {k}")?,
-            None => return writeln!(out, "bad input"),
+            None => {
+                writeln!(out, "bad input")?;
+                break;
+            }
         }
     }
-    Ok(())
+    Ok(tally)
 }
 
 /// The bits that are printed. Machines make NaN of either sign, so all of them become one.

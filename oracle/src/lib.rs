@@ -17,6 +17,8 @@ pub mod fit;
 pub mod formulas;
 pub mod input;
 pub mod leaves;
+#[cfg(all(test, feature = "argmin"))]
+mod outside;
 pub mod random;
 pub mod replay;
 pub mod roots;

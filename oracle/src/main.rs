@@ -1,7 +1,6 @@
 //! The developers' oracle: its words are in README.md and below.
 
 use oracle::step::{self, Answer};
-use oracle::tally::Tally;
 use oracle::{
     calls, cases, damaged, decimals, fit, formulas, leaves, replay, roots, scripts, sessions,
     slips, smooth, special, table,
@@ -12,8 +11,9 @@ use std::io::{self, BufWriter, Read, Write};
 use std::process::ExitCode;
 
 const USAGE: &str = "\
-usage: oracle leaves [--ops K]     answer the calls on standard input, as program `leaves` does;
-                                   call numbers above K (default 8) are unknown
+usage: oracle leaves [--counts]    answer the calls on standard input, as program `leaves` does;
+                                   --counts: and count the answers, on standard error
+       oracle leaves --ops K       the same; call numbers above K are unknown
        oracle roots COUNT SEED     write an input of COUNT root calls
        oracle calls COUNT SEED     write an input of COUNT calls of operations 2 to 8
        oracle damaged COUNT SEED   write an input of COUNT root calls and one damaged call
@@ -56,9 +56,10 @@ fn main() -> ExitCode {
     let words: Vec<String> = env::args().skip(1).collect();
     let words: Vec<&str> = words.iter().map(String::as_str).collect();
     let done = match words[..] {
-        ["leaves"] => answer_leaves(leaves::OPERATIONS),
+        ["leaves"] => answer_leaves(leaves::OPERATIONS, false),
+        ["leaves", "--counts"] => answer_leaves(leaves::OPERATIONS, true),
         ["leaves", "--ops", k] => match k.parse() {
-            Ok(k) if k <= leaves::OPERATIONS => answer_leaves(k),
+            Ok(k) if k <= leaves::OPERATIONS => answer_leaves(k, false),
             _ => return usage(),
         },
         ["formulas"] => answer_one(|input| step::answer(input, formulas::solve)),
@@ -138,11 +139,15 @@ fn standard_input() -> io::Result<Vec<u8>> {
     Ok(input)
 }
 
-fn answer_leaves(operations: u64) -> io::Result<()> {
+fn answer_leaves(operations: u64, counts: bool) -> io::Result<()> {
     let input = standard_input()?;
     let mut out = BufWriter::new(io::stdout().lock());
-    leaves::answer(&input, operations, &mut out)?;
-    out.flush()
+    let tally = leaves::answer(&input, operations, &mut out)?;
+    out.flush()?;
+    if counts {
+        tally.write(&mut io::stderr())?;
+    }
+    Ok(())
 }
 
 fn answer_one(answer: impl Fn(&[u8]) -> Answer) -> io::Result<()> {
@@ -220,10 +225,10 @@ fn best(input: &[u8]) -> Answer {
 fn answer_batch(counts: bool) -> io::Result<()> {
     let input = standard_input()?;
     let mut out = BufWriter::new(io::stdout().lock());
-    let tally = RefCell::new(Tally::default());
+    let tally = RefCell::new(step::tally());
     let answer = |case: &[u8]| {
         let answer = best(case);
-        tally.borrow_mut().add(case, &answer);
+        step::count(&mut tally.borrow_mut(), case, &answer);
         answer
     };
     step::batch(&input, answer, &mut out)?;

@@ -3,9 +3,12 @@
 use crate::input::words;
 use crate::random::Random;
 use crate::replay;
-use crate::session::Engine;
+use crate::session::{Engine, Station, Tried, Verdict};
 use crate::sessions;
-use std::collections::BTreeMap;
+use crate::step::Call;
+use crate::tally::Tally;
+use crate::vector::Vector;
+use std::cell::Cell;
 use std::io::{self, Write};
 
 /// `count` scripts, of one kind of session if it is told.
@@ -73,19 +76,26 @@ pub fn split(input: &[u8]) -> Option<(&[u8], &[u8])> {
     Some(rest.split_at(here))
 }
 
-/// Answers an input of program `replays`.
+/// Answers an input of program `replays`, and counts the lines.
 pub fn answer(input: &[u8], engine: &impl Engine, out: &mut impl Write) -> io::Result<Tally> {
-    let mut tally = Tally::default();
+    let mut tally = Tally::new(&ROWS, &KERNELS);
+    let engine = Counted {
+        engine,
+        judged: Default::default(),
+    };
     let mut left = input;
     while !left.is_empty() {
         let Some((script, rest)) = split(left) else {
             writeln!(out, "bad input")?;
             break;
         };
-        let lines = lines(script, engine)?;
-        tally.add(script, &lines);
+        let lines = lines(script, &engine)?;
+        count(&mut tally, script, &lines);
         out.write_all(&lines)?;
         left = rest;
+    }
+    for (column, judged) in engine.judged.iter().enumerate() {
+        tally.add("judged", column, judged.get());
     }
     Ok(tally)
 }
@@ -131,52 +141,75 @@ pub fn difference(
     writeln!(out, "no script differs: the other program writes more")
 }
 
-/// How often each line came, by kernel.
-#[derive(Default)]
-pub struct Tally {
-    lines: BTreeMap<String, [u64; KERNELS.len()]>,
-    scripts: u64,
-}
-
+/// The table's columns.
 const KERNELS: [&str; 4] = ["Cauchy", "Dogleg", "Steihaug", "no kernel"];
 
-impl Tally {
-    fn add(&mut self, script: &[u8], lines: &[u8]) {
-        self.scripts += 1;
-        let kernel = script.chunks_exact(8).nth(2);
-        let column = match kernel.map(|word| word.try_into().map(u64::from_le_bytes)) {
-            Some(Ok(kernel @ 1..=3)) => kernel as usize - 1,
-            _ => 3,
+/// Its rows: the lines by their first words, and sums.
+const ROWS: [&str; 22] = [
+    "start",
+    "proposed",
+    "accepted",
+    "rejected",
+    "rejected, NaN",
+    "taken",
+    "done",
+    "refused 1",
+    "refused 2",
+    "refused 3",
+    "refused 4",
+    "refused 5",
+    "refused 6",
+    "refused 7",
+    "refused 8",
+    "bad input",
+    "end ready",
+    "end cost",
+    "end derivatives",
+    "trials",
+    "judged",
+    "scripts",
+];
+
+/// Counts a script and its lines.
+fn count(tally: &mut Tally, script: &[u8], lines: &[u8]) {
+    let kernel = script.chunks_exact(8).nth(2);
+    let column = match kernel.map(|word| word.try_into().map(u64::from_le_bytes)) {
+        Some(Ok(kernel @ 1..=3)) => kernel as usize - 1,
+        _ => 3,
+    };
+    for line in String::from_utf8_lossy(lines).lines() {
+        let words: Vec<&str> = line.split(' ').collect();
+        let name = match words[..] {
+            ["refused" | "end" | "bad", ..] => words[..2].join(" "),
+            ["step" | "trial" | "point" | "gradient" | "hessian" | "radius" | "cost", ..] => {
+                continue
+            }
+            [word, "7ff8000000000000", ..] => format!("{word}, NaN"),
+            _ => words[0].to_string(),
         };
-        for line in String::from_utf8_lossy(lines).lines() {
-            let words: Vec<&str> = line.split(' ').collect();
-            let name = match words[..] {
-                ["refused" | "end" | "bad", ..] => words[..2].join(" "),
-                ["step" | "trial" | "point" | "gradient" | "hessian" | "radius" | "cost", ..] => {
-                    continue
-                }
-                [word, "7ff8000000000000", ..] => format!("{word}, NaN"),
-                _ => words[0].to_string(),
-            };
-            self.lines.entry(name).or_default()[column] += 1;
+        tally.add(&name, column, 1);
+        if name.starts_with("accepted") || name.starts_with("rejected") {
+            tally.add("trials", column, 1);
         }
     }
+    tally.add("scripts", column, 1);
+}
 
-    /// A table whose rows can be added to those of others.
-    pub fn write(&self, out: &mut impl Write) -> io::Result<()> {
-        write!(out, "{:16}", "")?;
-        for kernel in KERNELS {
-            write!(out, "{kernel:>12}")?;
-        }
-        writeln!(out)?;
-        for (name, counts) in &self.lines {
-            write!(out, "{name:16}")?;
-            for count in counts {
-                write!(out, "{count:>12}")?;
-            }
-            writeln!(out)?;
-        }
-        writeln!(out, "{:16}{:>12}", "scripts", self.scripts)
+/// An engine whose verdicts are counted by kernel: trials that a caller made up do not reach it.
+struct Counted<'a, E> {
+    engine: &'a E,
+    judged: [Cell<u64>; 3],
+}
+
+impl<E: Engine> Engine for Counted<'_, E> {
+    fn solve(&self, call: &Call) -> Result<(Vector, u64), u8> {
+        self.engine.solve(call)
+    }
+
+    fn judge(&self, station: &Station, tried: &Tried) -> Verdict {
+        let judged = &self.judged[station.settings.kernel as usize - 1];
+        judged.set(judged.get() + 1);
+        self.engine.judge(station, tried)
     }
 }
 
@@ -228,7 +261,7 @@ mod tests {
             ("end derivatives", 7),
         ] {
             for kernel in (0..3).filter(|k| kernels & 1 << k != 0) {
-                assert!(tally.lines[name][kernel] > 0, "no {name}: {kernel}");
+                assert!(tally.get(name, kernel) > 0, "no {name}: {kernel}");
             }
         }
     }

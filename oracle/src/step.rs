@@ -1,6 +1,7 @@
 //! Program `step` but for its kernels: what an input means, which refusals come before a kernel and
 //! after it, and the lines of an answer. All of it rests on document 01 alone.
 
+use crate::tally::{Tally, ANSWERS};
 use crate::vector::{Matrix, Vector};
 use std::io::{self, Write};
 
@@ -128,6 +129,30 @@ impl Answer {
     }
 }
 
+/// How often each kernel gave each answer.
+pub fn tally() -> Tally {
+    Tally::new(
+        &["Cauchy", "Dogleg", "Steihaug", "another kernel", "all"],
+        &ANSWERS,
+    )
+}
+
+/// Counts the answer to an input.
+pub fn count(tally: &mut Tally, input: &[u8], answer: &Answer) {
+    let row = match input.first_chunk().map(|word| u64::from_le_bytes(*word)) {
+        Some(1) => "Cauchy",
+        Some(2) => "Dogleg",
+        Some(3) => "Steihaug",
+        _ => "another kernel",
+    };
+    let column = match answer {
+        Answer::Step { .. } => 0,
+        Answer::Refused(number) => usize::from(*number),
+    };
+    tally.add(row, column, 1);
+    tally.add("all", column, 1);
+}
+
 /// Answers a batch: for each case a word with its length in bytes, and its bytes. Nothing follows a
 /// case that runs past the end.
 pub fn batch(
@@ -250,6 +275,22 @@ mod tests {
         let g = f64::from_bits((1023 + 600) << 52);
         let input = [2, 1, TWO, 0, 0, g.to_bits(), 1f64.to_bits()];
         assert_eq!(lines(&input), "refused 8\n");
+    }
+
+    #[test]
+    fn counts() {
+        let mut tally = tally();
+        let step = Answer::Step {
+            step: vec![],
+            passes: 0,
+        };
+        count(&mut tally, &2u64.to_le_bytes(), &step);
+        count(&mut tally, &2u64.to_le_bytes(), &Answer::Refused(6));
+        count(&mut tally, &[], &Answer::Refused(1));
+        let counted = |row: &str| [0, 1, 6].map(|column| tally.get(row, column));
+        assert_eq!(counted("Dogleg"), [1, 0, 1]);
+        assert_eq!(counted("another kernel"), [0, 1, 0]);
+        assert_eq!(counted("all"), [1, 1, 1]);
     }
 
     #[test]

@@ -1,50 +1,64 @@
-//! How often each kernel gave each answer.
+//! Counts by row and column. Every row and column is written, whether or not it came up, so that tables can be added.
 
-use crate::step::Answer;
 use std::io::{self, Write};
 
-const ROWS: [&str; 5] = [
-    "1 Cauchy",
-    "2 Dogleg",
-    "3 Steihaug",
-    "another kernel",
-    "all",
+/// What a call can come to: an answer, or a refusal by its number.
+pub const ANSWERS: [&str; 9] = [
+    "answered",
+    "refused 1",
+    "refused 2",
+    "refused 3",
+    "refused 4",
+    "refused 5",
+    "refused 6",
+    "refused 7",
+    "refused 8",
 ];
-const ANOTHER: usize = 3;
-const ALL: usize = 4;
 
-/// A column for steps and one for each refusal, whether or not it came up: tables can be added.
-const COLUMNS: usize = 9;
-
-#[derive(Default)]
-pub struct Tally([[u64; COLUMNS]; ROWS.len()]);
+/// The last row counts what was answered in all.
+pub struct Tally {
+    rows: &'static [&'static str],
+    columns: &'static [&'static str],
+    counts: Vec<Vec<u64>>,
+}
 
 impl Tally {
-    pub fn add(&mut self, input: &[u8], answer: &Answer) {
-        let row = match input.first_chunk().map(|word| u64::from_le_bytes(*word)) {
-            Some(kernel @ 1..=3) => kernel as usize - 1,
-            _ => ANOTHER,
-        };
-        let column = match answer {
-            Answer::Step { .. } => 0,
-            Answer::Refused(number) => usize::from(*number),
-        };
-        self.0[row][column] += 1;
-        self.0[ALL][column] += 1;
+    pub fn new(rows: &'static [&'static str], columns: &'static [&'static str]) -> Tally {
+        Tally {
+            rows,
+            columns,
+            counts: vec![vec![0; columns.len()]; rows.len()],
+        }
+    }
+
+    /// A name that is no row ends the oracle: nothing goes uncounted.
+    fn place(&self, row: &str) -> usize {
+        let found = self.rows.iter().position(|name| *name == row);
+        found.unwrap_or_else(|| panic!("the table has no row {row}"))
+    }
+
+    pub fn add(&mut self, row: &str, column: usize, count: u64) {
+        let row = self.place(row);
+        self.counts[row][column] += count;
+    }
+
+    pub fn get(&self, row: &str, column: usize) -> u64 {
+        self.counts[self.place(row)][column]
     }
 
     pub fn write(&self, out: &mut impl Write) -> io::Result<()> {
-        write!(out, "{:14}{:>9}", "", "step")?;
-        for number in 1..COLUMNS {
-            write!(out, "{:>10}", format!("refused {number}"))?;
-        }
-        writeln!(out)?;
-        for (name, counts) in ROWS.iter().zip(&self.0) {
-            write!(out, "{name:14}{:>9}", counts[0])?;
-            for count in &counts[1..] {
-                write!(out, "{count:>10}")?;
+        let line = |out: &mut dyn Write, name: &str, cells: &[String]| {
+            write!(out, "{name:18}")?;
+            for cell in cells {
+                write!(out, "{cell:>11}")?;
             }
-            writeln!(out)?;
+            writeln!(out)
+        };
+        let heads: Vec<String> = self.columns.iter().map(|head| head.to_string()).collect();
+        line(out, "", &heads)?;
+        for (name, counts) in self.rows.iter().zip(&self.counts) {
+            let cells: Vec<String> = counts.iter().map(u64::to_string).collect();
+            line(out, name, &cells)?;
         }
         Ok(())
     }
@@ -56,30 +70,27 @@ mod tests {
 
     #[test]
     fn a_table() {
-        let mut tally = Tally::default();
-        let step = Answer::Step {
-            step: vec![],
-            passes: 0,
-        };
-        tally.add(&2u64.to_le_bytes(), &step);
-        tally.add(&2u64.to_le_bytes(), &step);
-        tally.add(&2u64.to_le_bytes(), &Answer::Refused(6));
-        tally.add(&[], &Answer::Refused(1));
+        let mut tally = Tally::new(&["a dot", "all"], &["good", "bad"]);
+        tally.add("a dot", 0, 2);
+        tally.add("a dot", 0, 1);
+        tally.add("all", 1, 40);
+        assert_eq!(tally.get("a dot", 0), 3);
         let mut out = Vec::new();
         tally.write(&mut out).unwrap();
-        let out = String::from_utf8(out).unwrap();
-        let lines: Vec<Vec<&str>> = out
-            .lines()
-            .map(|line| line.split_whitespace().collect())
-            .collect();
+        let lines = [
+            "                         good        bad",
+            "a dot                       3          0",
+            "all                         0         40",
+        ];
         assert_eq!(
-            lines[2],
-            ["2", "Dogleg", "2", "0", "0", "0", "0", "0", "1", "0", "0"]
+            String::from_utf8(out).unwrap(),
+            lines.map(|line| format!("{line}\n")).concat()
         );
-        assert_eq!(lines[4][2..4], ["0", "1"]);
-        assert_eq!(
-            lines[5],
-            ["all", "2", "1", "0", "0", "0", "0", "1", "0", "0"]
-        );
+    }
+
+    #[test]
+    #[should_panic]
+    fn no_row() {
+        Tally::new(&["all"], &["good"]).add("some", 0, 1);
     }
 }
