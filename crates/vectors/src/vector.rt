@@ -149,7 +149,14 @@ fn times_unchecked(n: usize, h: &[f64], d: &[f64], out: &mut [f64])
 {
     let mut i = 0;
     while i < n {
-        out[i] = float::one_nan(row_dot(n, h, i, d));
+        let part = row(n, h, i);
+        let mut total = 0.0;
+        let mut k = 0;
+        while k < n {
+            total = total + part[k] * d[k];
+            k += 1;
+        }
+        out[i] = float::one_nan(total);
         i += 1;
     }
 }
