@@ -64,24 +64,6 @@ fn entry(n: usize, w: &[f64], i: usize, j: usize) -> f64
     w[from + j]
 }
 
-// The pivot row of column j.
-fn pivot_row(n: usize, w: &[f64], j: usize) -> usize
-    requires { ⌜ Roomy n (length (now w)) × (j < n) ⌝ }
-    ensures { λ r. ⌜ (r ≡ Inverse.pivot-row n (Inverse.rows-in (now (w .entry)) n) j) × (r < n) ⌝ }
-{
-    let mut p = j;
-    let mut i = j + 1;
-    while i < n {
-        let held = float::magnitude(entry(n, w, p, j));
-        let seen = float::magnitude(entry(n, w, i, j));
-        if seen > held {
-            p = i;
-        }
-        i += 1;
-    }
-    p
-}
-
 // The one place that says which pivots end in refusal 6.
 fn no_pivot(x: f64) -> bool
     ensures { λ r. ⌜ r ≡ Inverse.no-pivot x ⌝ }
@@ -137,30 +119,30 @@ fn clear_rows(n: usize, w: &mut [f64], j: usize)
     }
 }
 
-// Column j; false where it has no pivot.
-fn column(n: usize, w: &mut [f64], j: usize) -> bool
-    requires { ⌜ Roomy n (length (now w)) × (j < n) ⌝ }
-    ensures { λ r. ⌜ Inverse.found r (Inverse.rows-in (now (w .exit)) n) ≡ Inverse.column n (Inverse.rows-in (now (w .entry)) n) j ⌝ }
-{
-    let p = pivot_row(n, w, j);
-    if no_pivot(entry(n, w, p, j)) {
-        return false;
-    }
-    swap_rows(n, w, j, p);
-    divide_row(n, w, j);
-    clear_rows(n, w, j);
-    true
-}
-
+// Column after column; false where one has no pivot.
 fn columns(n: usize, w: &mut [f64]) -> bool
     requires { ⌜ Roomy n (length (now w)) ⌝ }
     ensures { λ r. ⌜ Inverse.found r (Inverse.rows-in (now (w .exit)) n) ≡ Inverse.columns n n 0 (Inverse.rows-in (now (w .entry)) n) ⌝ }
 {
     let mut j = 0;
     while j < n {
-        if !column(n, w, j) {
+        // the pivot row starts at j and moves down
+        let mut p = j;
+        let mut i = j + 1;
+        while i < n {
+            let held = float::magnitude(entry(n, w, p, j));
+            let seen = float::magnitude(entry(n, w, i, j));
+            if seen > held {
+                p = i;
+            }
+            i += 1;
+        }
+        if no_pivot(entry(n, w, p, j)) {
             return false;
         }
+        swap_rows(n, w, j, p);
+        divide_row(n, w, j);
+        clear_rows(n, w, j);
         j += 1;
     }
     true
