@@ -352,10 +352,10 @@ module _ (epsilon : Float) (limit n : ℕ) (radius : Float) (g H w : List Float)
     unfolding steihaug
     is-whole = rw (← e, t, ← s) (ap (then handed-out) f)
 
-    pub in-passes : (w₁ : List Float) (r : Stepped) (k : ℕ) → length w₁ ≡ length w → o ≡ given (made k (slot w₁ n 6)) → Laid (handed-out (made k (slot w₁ n 6))) r w₁ w′
+    pub in-passes : (w₁ : List Float) (r : Stepped) (k s : ℕ) → length w₁ ≡ length w → o ≡ given (made k (slot w₁ n s)) → Laid (handed-out (made k (slot w₁ n s))) r w₁ w′
         → Laid whole r w₀ w′
-    in-passes w₁ r k m i h =
-        laid-same n (handed-out (made k (slot w₁ n 6))) whole r w₁ w₀ w′ (steihaug-proper epsilon limit n radius g H) (rw i at is-whole) (m ∙ l) h
+    in-passes w₁ r k s m i h =
+        laid-same n (handed-out (made k (slot w₁ n s))) whole r w₁ w₀ w′ (steihaug-proper epsilon limit n radius g H) (rw i at is-whole) (m ∙ l) h
 
     pub without-root : (len : ℕ) (k : Refusal) → len ≡ length w → o ≡ refused k → w′ ≡ zeros len → Laid whole (stepped (refused k)) w₀ w′
     without-root len k m i z =

@@ -11,14 +11,14 @@ use Rattle.vectors.specs.Slots.{slot}
 use Rattle.vectors.specs.Vector.{dot, norm, times, weighted, plus, scale, zeros}
 use Rattle.vectors.specs.Refusal.{Answer, refused, given, then}
 use Rattle.kernels.specs.Kernel.{Kernel, Made, made, handed-out}
-use Rattle.kernels.specs.declared.kernel.Stepped.{Stepped}
-use Rattle.kernels.specs.declared.kernel.Stepped.the-variants as stepped
 use Rattle.vectors.specs.declared.refusal.Refusal.the-variants.{Root}
 use Rattle.kernels.specs.declared.steihaug.Roots.{Roots}
 use Rattle.kernels.specs.declared.steihaug.Roots.the-variants.{Two, Three}
 use Rattle.kernels.specs.declared.steihaug.Valued.{Valued}
 use Rattle.kernels.specs.declared.steihaug.Turn.{Turn}
-use Rattle.kernels.specs.declared.steihaug.Turn.the-variants.{Stopped, Refused, WentOn}
+use Rattle.kernels.specs.declared.steihaug.Turn.the-variants.{Boundary, Inside, Refused, WentOn}
+use Rattle.kernels.specs.declared.steihaug.Exit.{Exit}
+use Rattle.kernels.specs.declared.steihaug.Exit.the-variants as exit
 
 -- ---- roots
 
@@ -170,11 +170,14 @@ Keeps n w w′ = (slot w′ n 0 ≡ slot w n 0) × (slot w′ n 2 ≡ slot w n 2
 
 -- what a pass of the code stands for, with the scratch that it left
 abbrev pub passed : Turn → ℕ → List Float → Pass
-passed Stopped n w = stops (given (slot w n 6))
+passed Boundary n w = stops (given (slot w n 6))
+passed Inside n w = stops (given (slot w n 6))
 passed (Refused r) n w = stops (refused r)
 passed (WentOn rtr) n w = goes-on (state-in w n rtr)
 
 -- and all passes
-abbrev pub ran : Stepped → ℕ → List Float → Answer Made
-ran (stepped.In k) n w = given (made k (slot w n 6))
-ran (stepped.Refused r) n w = refused r
+abbrev pub ran : Exit → ℕ → List Float → Answer Made
+ran (exit.Limit k) n w = given (made k (slot w n 0))
+ran (exit.Boundary k) n w = given (made k (slot w n 6))
+ran (exit.Inside k) n w = given (made k (slot w n 6))
+ran (exit.Refused r) n w = refused r

@@ -1,7 +1,6 @@
 // Steihaug: conjugate gradients as far as the radius
 // (Nocedal and Wright, Numerical Optimization, section 7.1).
-// In the scratch w, p is slot 0, r and then s slot 1, d slot 2, H·d slot 3, and q, or the point that was
-// chosen, slot 6.
+// In the scratch w, p is slot 0, r and then s slot 1, d slot 2, H·d slot 3, and q, or p + d·tau, slot 6.
 use crate::inner;
 use crate::kernel;
 use crate::kernel::Stepped;
@@ -36,11 +35,21 @@ pub struct Valued {
     pub model: f64,
 }
 
-// How a pass ended: with a point, without a usable root, or on to the next with r·r.
+// How a pass ended: with p + d·tau, with q, without a usable root, or on to the next with r·r.
 pub enum Turn {
-    Stopped,
+    Boundary,
+    Inside,
     Refused(Refusal),
     WentOn(f64),
+}
+
+// Where the passes ended, and how many had begun: at the limit with p, in slot 0; in a pass with p + d·tau,
+// (a) or (b), or with q, (c), in slot 6; or without a usable root.
+pub enum Exit {
+    Limit(u64),
+    Boundary(u64),
+    Inside(u64),
+    Refused(Refusal),
 }
 
 fn both_finite(x: f64, y: f64) -> bool
@@ -180,7 +189,7 @@ fn stop_at(n: usize, w: &mut [f64], tau: Number) -> Turn
     match tau {
         Number::Is(t) => {
             workspace::each(n, w, 6, Op::PlusTimes(t), 0, 2);
-            Turn::Stopped
+            Turn::Boundary
         }
         Number::Refused(r) => Turn::Refused(r),
     }
@@ -232,7 +241,7 @@ fn straight(n: usize, w: &mut [f64], radius: f64, small: f64, rtr: f64, alpha: f
     }
     workspace::update(n, w, 1, Op::PlusTimes(alpha), 3);
     if workspace::norm(n, w, 1) < small {
-        return Turn::Stopped;
+        return Turn::Inside;
     }
     onward(n, w, rtr)
 }
@@ -260,7 +269,7 @@ fn run(
     limit: u64,
     g: &[f64],
     h: &[f64],
-) -> Stepped
+) -> Exit
     requires { ⌜ Square n (length (now h)) × (length (now g) ≡ n) × (8 * n ≤ length (now w)) ⌝ }
     ensures { λ r. ⌜ ran r n (now (w .exit)) ≡ Steihaug.run n radius small (now (g .entry)) (now (h .entry)) limit 0 (state-in (now (w .entry)) n first) ⌝ }
 {
@@ -268,14 +277,14 @@ fn run(
     let mut passes = 0;
     let end = loop {
         if passes >= limit {
-            workspace::each(n, w, 6, Op::Same, 0, 0);
-            break Stepped::In(passes);
+            break Exit::Limit(passes);
         }
         let turn = pass(n, w, radius, small, rtr, g, h);
         passes += 1;
         match turn {
-            Turn::Stopped => break Stepped::In(passes),
-            Turn::Refused(r) => break Stepped::Refused(r),
+            Turn::Boundary => break Exit::Boundary(passes),
+            Turn::Inside => break Exit::Inside(passes),
+            Turn::Refused(r) => break Exit::Refused(r),
             Turn::WentOn(next) => {
                 rtr = next;
             }
@@ -315,8 +324,10 @@ pub(crate) fn lay(
     }
     let end = run(n, w, radius, epsilon * norm, rtr, limit, g, h);
     match end {
-        Stepped::In(passes) => kernel::settle(n, w, 6, passes),
-        Stepped::Refused(r) => {
+        Exit::Limit(passes) => kernel::settle(n, w, 0, passes),
+        Exit::Boundary(passes) => kernel::settle(n, w, 6, passes),
+        Exit::Inside(passes) => kernel::settle(n, w, 6, passes),
+        Exit::Refused(r) => {
             workspace::clear(w);
             Stepped::Refused(r)
         }

@@ -5,7 +5,7 @@ use native.Mathlib.Nat.{sub-zero}
 use lib.ListN.{length}
 use borrow.Author.Needs.{needs}
 use Rattle.kernels.specs.Steihaug.{run, state-in}
-use Rattle.kernels.proofs.Passes.{put-same, turned, done}
+use Rattle.kernels.proofs.Passes.{turned, done}
 use Rattle.kernels.proofs.steihaug.run.Statement.{statement}
 use Rattle.kernels.proofs.steihaug.run.Tie as tie
 
@@ -28,6 +28,11 @@ returns-2 c =
 
 returns-3 : tie.Need-returns-3 Inv-loop μ-loop
 returns-3 c =
+    let begun = c .before .before .before .before in
+    turned _ _ _ _ _ _ _ _ _ (begun .before .before .before .loop .inv .2) _ (begun .before .before .if1 .left) (rw (c .enum-told2 .given .1) at (begun .pass .ensures))
+
+returns-4 : tie.Need-returns-4 Inv-loop μ-loop
+returns-4 c =
     let begun = c .before .before .before .before .before in
     turned _ _ _ _ _ _ _ _ _ (begun .before .before .before .loop .inv .2) _ (begun .before .before .if1 .left) (rw (c .before .turn .given .1) at (begun .pass .ensures))
 
@@ -36,11 +41,13 @@ run-spec =
     tie.close
     (tie.spec Inv-loop μ-loop
     (λ c. (search needs, refl, rw sub-zero))
-    (λ c κs. search needs) (λ c κs. search needs) (λ c. search needs) (λ c. search needs) (λ c. search needs) (λ c. search needs) (λ c. search needs)
+    (λ c κs. search needs) (λ c. search needs) (λ c. search needs) (λ c. search needs) (λ c. search needs) (λ c. search needs) (λ c. search needs)
     loop-again
-    (λ c. search needs)
-    (λ c. done _ _ _ _ _ _ _ _ _ (c .before .before .before .before .before .loop .inv .2) _ (c .before .before .before .before .if1 .taken) (put-same _ _ _ 6 0 0 (search needs) (c .before .before .each .ensures) 6))
+    (λ c. c .before .loop .inv .1)
+    (λ c. done _ _ _ _ _ _ _ _ _ (c .before .loop .inv .2) _ (c .if1 .taken) refl)
     (λ c. search needs)
     returns-2
     (λ c. search needs)
-    returns-3)
+    returns-3
+    (λ c. search needs)
+    returns-4)
