@@ -7,3 +7,4 @@ pub mod CauchyPoints
 pub mod Doglegs
 pub mod Passes
 pub mod Choices
+pub mod Branches

@@ -1,7 +1,9 @@
 -- "Dogleg." Definitions only.
 use mathlib.Core.Bool.{cond, _&&_}
 use mathlib.Core.List.{List, [], _∷_}
+use mathlib.Core.Logic.{_⊎_}
 use Prim.Native.Nat.{ℕ}
+use lib.Dec.{T}
 use lib.Ieee.{Float, lt, le, neg}
 use Rattle.float.specs.Numbers.{_⊕_, _⊖_, _⊗_, _⊘_, square}
 use Rattle.float.specs.Constants.{nought, one, two}
@@ -30,6 +32,10 @@ kept-from held (t ∷ ts) = kept-from (keep held t) ts
 unfoldable pub bent : ℕ → Float → (pu v : List Float) → List Float
 unfolding plus scale
 bent n tau pu v = cond (lt tau one) (scale n pu tau) (plus n pu (scale n v (tau ⊖ one)))
+
+-- "The Rust's third branch, an error, can't be reached": its first asks for 0 ≤ tau < 1, its second for 1 ≤ tau ≤ 2. Proved of every tau: `no-third`.
+abbrev pub Branches : Float → Type 0
+Branches tau = (T (le nought tau) × T (lt tau one)) ⊎ (T (le one tau) × T (le tau two))
 
 -- outside: "v = pb − pu, c = pu·v, k = v·v, u = pu·pu, D = radius²"; "Start from 0"
 unfoldable pub outside : ℕ → Float → (pu v : List Float) → List Float
