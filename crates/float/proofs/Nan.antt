@@ -4,7 +4,7 @@ use mathlib.Core.Bool.{Bool, true, false, not}
 use Prim.Native.Nat.{ℕ, _*_, _≤_, _<_, _%_}
 use lib.IntN.{ℤ}
 use lib.Dec.{T}
-use lib.Ieee.{Float, nan, inf, fin, binary64, up, down, level, add, sub, mul, div, neg, lt, le, eq, ne, isNan, nanBits, ofBits}
+use lib.Ieee.{Float, nan, inf, fin, binary64, up, down, level, add, sub, mul, div, lt, eq, ne, isNan, nanBits, ofBits}
 use lib.Ieee.Bits.{nanBits-is, nanBits-above}
 use borrow.Author.Tests.{le-ltb, lt-ltb, eq-eqb}
 
@@ -36,10 +36,6 @@ pub div-nan : Spoilt (div binary64)
 unfolding div
 div-nan = record { first = λ y. refl; second = each (λ x. div binary64 x nan ≡ nan) refl (λ s. refl) (λ s m e. refl) }
 
-pub neg-nan : neg nan ≡ nan
-unfolding neg
-neg-nan = refl
-
 -- ---- and a comparison with it is false
 
 pub record Unordered (test : Float → Float → Bool) : Type 0 where
@@ -49,14 +45,6 @@ pub record Unordered (test : Float → Float → Bool) : Type 0 where
 pub lt-nan : Unordered lt
 unfolding lt
 lt-nan = record { first = λ y. refl; second = each (λ x. lt x nan ≡ false) refl (λ s. refl) (λ s m e. refl) }
-
-pub le-nan : Unordered le
-unfolding le
-le-nan = record { first = λ y. refl; second = each (λ x. le x nan ≡ false) refl (λ s. refl) (λ s m e. refl) }
-
-pub eq-nan : Unordered eq
-unfolding eq
-eq-nan = record { first = λ y. refl; second = each (λ x. eq x nan ≡ false) refl (λ s. refl) (λ s m e. refl) }
 
 -- ---- how it is told
 

@@ -1,8 +1,8 @@
--- Signs of rounded differences and quotients, and what a quarter, a magnitude and the smaller of two are no larger than. Assumes nothing.
+-- Signs of rounded differences and quotients, and what a quarter and the smaller of two are no larger than. Assumes nothing.
 use mathlib.Core.Path.{_≡_, refl, sym, ap, _∙_, subst}
 use mathlib.Core.Logic.{inl, inr}
 use Prim.Native.Nat.{ℕ, zero, suc, _+_, _-_, _*_, _^_, _≤_, _<_, zero-le}
-use native.Mathlib.Nat.{suc-mul, add-mul, mul-sub, mul-comm, mul-assoc, le-of-lt, le-trans, le-of-eq, lt-of-lt-of-le, lt-of-le-of-lt, lt-irrefl, eq-zero-or-pos, mul-right-comm, zero-mul, one-mul, mul-pos, mul-le-mul-right, mul-le-mul-left, zero-lt-suc}
+use native.Mathlib.Nat.{le-trans, le-of-eq, lt-of-lt-of-le, lt-of-le-of-lt, lt-irrefl, eq-zero-or-pos, zero-mul, one-mul, mul-pos, mul-le-mul-right, mul-le-mul-left, zero-lt-suc}
 use native.Mathlib.Omega.{arith}
 use mathlib.Core.Bool.{Bool, true, false, not, cond, true≢false}
 use lib.IntN.{ℤ, pos}
@@ -13,13 +13,13 @@ use lib.Ieee.Fits.{up-pos, down-pos, round-is}
 use lib.Ieee.Exact.{HasValue, round-exact}
 use lib.Ieee.Order.{round-mono}
 use lib.Ieee.Positive.{first-pos}
-use borrow.Author.Tests.{ne-eqb, lt-ltb, le-ltb}
-use Rattle.float.specs.Numbers.{_⊖_, _⊗_, _⊘_, finite, magnitude, smaller}
+use borrow.Author.Tests.{ne-eqb}
+use Rattle.float.specs.Numbers.{_⊖_, _⊗_, _⊘_, smaller}
 use Rattle.float.specs.Constants.{nought, quarter}
 use Rattle.float.proofs.Nan.{real}
 use Rattle.float.proofs.Scalars.{zero-exponent}
-use Rattle.float.proofs.Order.{sign, top, bottom, AtMost, AtMost→le, le→AtMost, le-real, le-self, lt→le, lt-le-trans}
-use Rattle.float.proofs.Values.{held, Units, in-units, round-own}
+use Rattle.float.proofs.Order.{sign, top, bottom, AtMost, AtMost→le, le→AtMost, le-real, le-self, lt→le}
+use Rattle.float.proofs.Values.{round-own}
 
 -- ---- what is above zero, and what is not below it
 
@@ -149,76 +149,6 @@ sub-above (fin s m e) (inf true) h = tt
 sub-above (fin s m e) (inf false) h = absurd h
 sub-above (fin s m e) (fin t n d) h = apart s t (m * up e * down d) (n * up d * down e) (down e * down d) (mul-pos (down-pos e) (down-pos d)) h
 
--- ---- and of two f64 the larger less the smaller is above zero: no difference is lost in rounding
-least-above : T (lt nought (round binary64 false 1 (2 ^ 1074)))
-unfolding lt round ofBits
-least-above = tt
-
-rises : (n c : ℕ) → 0 < c → c ≤ n * 2 ^ 1074 → T (lt nought (round binary64 false n c))
-rises n c C h =
-    lt-le-trans nought (round binary64 false 1 (2 ^ 1074)) (round binary64 false n c) least-above
-    (round-mono binary64 1 (2 ^ 1074) n c (pow-pos 1074) C (le-trans (le-of-eq (one-mul c)) h))
-
--- n / c is z units of 2 ^ -1074: if it is not zero, it is at least one
-one-unit : (n z c : ℕ) → 0 < n → n * 2 ^ 1074 ≡ z * c → c ≤ n * 2 ^ 1074
-one-unit n zero c N e = absurd (lt-irrefl 0 (lt-of-lt-of-le (mul-pos N (pow-pos 1074)) (le-of-eq (e ∙ zero-mul c))))
-one-unit n (suc z) c N e = le-trans (le-trans (more (z * c) c) (le-of-eq (sym (suc-mul z c)))) (le-of-eq (sym e))
-  where
-    more : (a b : ℕ) → b ≤ a + b
-    more a b = omega arith
-
-sub-mul : (a b k : ℕ) → (a - b) * k ≡ a * k - b * k
-sub-mul a b k = mul-comm (a - b) k ∙ mul-sub k a b ∙ ap (λ (z : ℕ). z - k * b) (mul-comm k a) ∙ ap (λ (z : ℕ). a * k - z) (mul-comm k b)
-
-less-rises : (a b c x y : ℕ) → 0 < c → a * 2 ^ 1074 ≡ x * c → b * 2 ^ 1074 ≡ y * c → b < a → T (lt nought (round binary64 false (a - b) c))
-less-rises a b c x y C X Y l =
-    rises (a - b) c C
-    (one-unit (a - b) (x - y) c (some a b l) (sub-mul a b (2 ^ 1074) ∙ ap (λ (z : ℕ). z - b * 2 ^ 1074) X ∙ ap (λ (z : ℕ). x * c - z) Y ∙ sym (sub-mul x y c)))
-  where
-    some : (a b : ℕ) → b < a → 0 < a - b
-    some a b h = omega arith
-
--- ±a / c less ±b / c, of x and y units
-parted : (s t : Bool) (a b c x y : ℕ) → 0 < c → a * 2 ^ 1074 ≡ x * c → b * 2 ^ 1074 ≡ y * c → T (below t b s a) → T (lt nought (sum binary64 s a (not t) b c))
-unfolding sum
-parted false false a b c x y C X Y h =
-    let l = ltb→lt b a h in
-    rw (le-ltb a b (le-of-lt l)) (less-rises a b c x y C X Y l)
-parted false true a b c x y C X Y h =
-    rises (a + b) c C (one-unit (a + b) (x + y) c (flip (ltb→lt 0 (b + a) h)) (add-mul a b (2 ^ 1074) ∙ ap (λ (z : ℕ). z + b * 2 ^ 1074) X ∙ ap (λ (z : ℕ). x * c + z) Y ∙ sym (add-mul x y c)))
-  where
-    flip : 0 < b + a → 0 < a + b
-    flip h = omega arith
-parted true false a b c x y C X Y h = absurd h
-parted true true a b c x y C X Y h =
-    let l = ltb→lt a b h in
-    rw (lt-ltb a b l) (less-rises b a c y x C Y X l)
-
--- m * 2 ^ e over a common denominator, in units
-common : (m : ℕ) (e : ℤ) (d : ℕ) (u : Units m e) → m * up e * d * 2 ^ 1074 ≡ m * 2 ^ (u .places) * (down e * d)
-common m e d u = mul-right-comm (m * up e) d (2 ^ 1074) ∙ ap (λ (z : ℕ). z * d) (sym (u .exact)) ∙ mul-assoc (m * 2 ^ (u .places)) (down e) d
-
-pub sub-rises : (x y : Float) → T (fits binary64 x) → T (fits binary64 y) → T (lt y x) → T (lt nought (x ⊖ y))
-unfolding sub lt ofBits
-sub-rises nan nan f g h = absurd h
-sub-rises nan (inf t) f g h = absurd h
-sub-rises nan (fin t n d) f g h = absurd h
-sub-rises (inf s) nan f g h = absurd h
-sub-rises (inf true) (inf true) f g h = absurd h
-sub-rises (inf true) (inf false) f g h = absurd h
-sub-rises (inf false) (inf true) f g h = tt
-sub-rises (inf false) (inf false) f g h = absurd h
-sub-rises (inf true) (fin t n d) f g h = absurd h
-sub-rises (inf false) (fin t n d) f g h = tt
-sub-rises (fin s m e) nan f g h = absurd h
-sub-rises (fin s m e) (inf true) f g h = tt
-sub-rises (fin s m e) (inf false) f g h = absurd h
-sub-rises (fin s m e) (fin t n d) f g h =
-    let u = in-units m e (held s m e f .fine) in
-    let v = in-units n d (held t n d g .fine) in
-    parted s t (m * up e * down d) (n * up d * down e) (down e * down d) (m * 2 ^ (u .places)) (n * 2 ^ (v .places)) (mul-pos (down-pos e) (down-pos d))
-    (common m e (down d) u) (common n d (down e) v ∙ ap (λ (z : ℕ). n * 2 ^ (v .places) * z) (mul-comm (down d) (down e))) h
-
 -- ---- a quotient above zero, the divisor above zero: what is divided is above zero
 like : (s t : Bool) → unlike s t ≡ false → t ≡ false → s ≡ false
 like true true e h = absurd (true≢false h)
@@ -278,23 +208,3 @@ smaller-le x y r = go (lt y x) (λ t. t)
     go : (b : Bool) → (T b → T (lt y x)) → T (le (cond b y x) x)
     go true t = lt→le y x (t tt)
     go false t = le-self x r
-
--- ---- a finite number is no NaN, and a magnitude fits and is not negative
-pub finite-real : (x : Float) → T (finite x) → T (real x)
-unfolding finite isNan
-finite-real nan t = t
-finite-real (inf s) t = tt
-finite-real (fin s m e) t = tt
-
-pub magnitude-fits : (x : Float) → T (fits binary64 x) → T (fits binary64 (magnitude x))
-unfolding magnitude fits
-magnitude-fits nan f = tt
-magnitude-fits (inf s) f = tt
-magnitude-fits (fin s zero e) f = f
-magnitude-fits (fin s (suc m) e) f = f
-
-pub magnitude-not-negative : (x : Float) → T (real x) → T (le nought (magnitude x))
-unfolding magnitude
-magnitude-not-negative nan r = absurd (unfold isNan in r)
-magnitude-not-negative (inf s) r = not-negative (inf false) (unfold isNan in tt) refl
-magnitude-not-negative (fin s m e) r = not-negative (fin false m e) (unfold isNan in tt) refl

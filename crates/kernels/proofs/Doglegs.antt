@@ -11,7 +11,7 @@ use Rattle.root.specs.Root.{root}
 use Rattle.vectors.specs.Vector.{dot, norm, weighted, plus, minus, scale, zeros}
 use Rattle.vectors.specs.Slots.{slot, Puts}
 use Rattle.kernels.specs.Workspace.{each}
-use Rattle.vectors.specs.Refusal.{Answer, refused, given, then}
+use Rattle.vectors.specs.Refusal.{refused, given}
 use Rattle.kernels.specs.Kernel.{made, handed-out, Proper, Laid}
 use Rattle.kernels.specs.Inverse.{Rows, found, column-by, column, columns, eliminated, inverse-times, entry, no-pivot, pivot-row, swapped, divided, cleared, start}
 use Rattle.kernels.specs.Dogleg.{candidates, keep, kept-from, bent, outside, unconstrained, dogleg-step, newton, dogleg}

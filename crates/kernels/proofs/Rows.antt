@@ -259,8 +259,5 @@ pub rows-kept : (w w′ : List Float) (n : ℕ) → ((k : ℕ) → 8 ≤ k → s
 rows-kept w w′ n a =
     fun-ext (λ i. pair w′ n (4 + i) ∙ rw (a (4 + i + (4 + i)) (omega arith), a (suc (4 + i + (4 + i))) (omega arith)) (sym (pair w n (4 + i))))
 
-pub low-put : (w w′ : List Float) (n k : ℕ) (v : List Float) → k < 8 → Puts w n k v w′ → rows-in w′ n ≡ rows-in w n
-low-put w w′ n k v h a = rows-kept w w′ n (λ j l. a j ∙ rw (ne-eqb j k (λ z. omega (arith, z, l, h))))
-
 pub low-writing : {old w : List Float} {n k : ℕ} {f : ℕ → Float} {i : ℕ} → k < 8 → Writing old n k f w i → rows-in w n ≡ rows-in old n
 low-writing {old} {w} {n} {k} {f} {i} h p = rows-kept old w n (λ j l. writing-other p j (ne-eqb j k (λ z. omega (arith, z, l, h))))

@@ -1,7 +1,5 @@
 -- "Cauchy." Definitions only.
 use mathlib.Core.Bool.{cond}
-use mathlib.Core.List.{List}
-use Prim.Native.Nat.{ℕ}
 use lib.Ieee.{Float, le, neg}
 use Rattle.float.specs.Numbers.{_⊗_, _⊘_, cube, smaller}
 use Rattle.float.specs.Constants.{nought, one}

@@ -9,7 +9,7 @@ use Rattle.float.specs.Numbers.{_⊕_, _⊖_, _⊗_, _⊘_, square}
 use Rattle.float.specs.Constants.{nought, one, two}
 use Rattle.root.specs.Root.{root}
 use Rattle.vectors.specs.Vector.{dot, norm, weighted, plus, minus, scale}
-use Rattle.vectors.specs.Refusal.{Answer, then}
+use Rattle.vectors.specs.Refusal.{then}
 use Rattle.kernels.specs.Inverse.{Rows, eliminated, inverse-times}
 use Rattle.kernels.specs.Kernel.{Kernel, made, handed-out}
 

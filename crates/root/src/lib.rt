@@ -2,7 +2,7 @@
 // one a turn, and the last of them rounded away. No tie can occur, since the root of an f64 never
 // lies halfway between two of them.
 ghost use mathlib.Core.Path.{_≡_};
-ghost use Prim.Native.Nat.{ℕ, _+_, _*_, _/_, _%_, _<_, _≤_, _^_};
+ghost use Prim.Native.Nat.{_+_, _*_, _/_, _%_, _<_, _≤_, _^_};
 ghost use lib.Ieee.{binary64, ofBits};
 ghost use Rattle.root.specs.Root as Root;
 ghost use Rattle.root.specs.Root.{whole-root};

@@ -36,12 +36,6 @@ pub over-start : (l : List ℕ) (v : ℕ) → over l 0 v ≡ v
 unfolding over
 over-start l v = refl
 
-pub over-all : (l : List ℕ) (i : ℕ) → over l i (value (drop i l)) ≡ value l
-unfolding over value
-over-all l zero = refl
-over-all [] (suc i) = refl
-over-all (x ∷ xs) (suc i) = rw (over-all xs i)
-
 -- one limb more is written: x, before the rest v
 pub over-put : (l : List ℕ) (i x v : ℕ) → i < length l → over l i (x + 2 ^ 32 * v) ≡ over (set l i x) (suc i) v
 unfolding over

@@ -1,7 +1,6 @@
 // The shortest decimal digits that read back as an f64, by Steele and White's method: the number is a
 // fraction r / s of whole numbers, and u / s measures how far its neighbours are.
 ghost use mathlib.Core.Path.{_≡_};
-ghost use mathlib.Core.Bool.{false};
 ghost use Prim.Native.Nat.{_+_, _-_, _*_, _/_, _%_, _^_, _<_, _≤_};
 ghost use lib.Dec.{leb};
 ghost use lib.ListN.{length};

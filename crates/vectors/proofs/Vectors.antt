@@ -10,7 +10,7 @@ use lib.Seq.{ext-getD}
 use lib.Ieee.{Float, nan}
 use Rattle.float.specs.Numbers.{_⊕_, _⊗_}
 use Rattle.float.proofs.Nan.{add-nan, mul-nan}
-use Rattle.vectors.specs.Vector.{at, tab, dot-to, dot, times-at, times, weighted, plus, minus, scale}
+use Rattle.vectors.specs.Vector.{at, tab, dot-to, dot, times-at, times, weighted, plus, scale}
 
 pub length-tab : (n : ℕ) (f : ℕ → Float) → length (tab n f) ≡ n
 unfolding tab
@@ -39,19 +39,11 @@ pub length-plus : (n : ℕ) (x y : List Float) → length (plus n x y) ≡ n
 unfolding plus
 length-plus n x y = length-tab n _
 
-pub length-minus : (n : ℕ) (x y : List Float) → length (minus n x y) ≡ n
-unfolding minus
-length-minus n x y = length-tab n _
-
 pub length-scale : (n : ℕ) (x : List Float) (a : Float) → length (scale n x a) ≡ n
 unfolding scale
 length-scale n x a = length-tab n _
 
 module _ (n : ℕ) (H d : List Float) where
-  pub length-times : length (times n H d) ≡ n
-  unfolding times
-  length-times = length-tab n (times-at n H d)
-
   pub at-times : (i : ℕ) → i < n → at (times n H d) i ≡ times-at n H d i
   unfolding times
   at-times = at-tab n (times-at n H d)

@@ -1,7 +1,6 @@
 -- `case::fill` meets its contract. The loop's invariant: the first i numbers are read. Assumes nothing.
 use mathlib.Core.Path.{refl}
 use Prim.Native.Nat.{_+_, _-_}
-use native.Mathlib.Omega.{arith}
 use lib.ListN.{length}
 use borrow.Author.Needs.{needs}
 use Rattle.vectors.proofs.Slots.{Writing, filling-none, filling-more, filling-done}

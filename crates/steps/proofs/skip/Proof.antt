@@ -1,6 +1,5 @@
 -- `steps::skip` is safe and ends: what is left falls. Assumes nothing.
 use mathlib.Core.Path.{_≡_, refl}
-use native.Mathlib.Omega.{arith}
 use borrow.Author.Needs.{needs}
 use lib.ListN.{length}
 use Rattle.steps.proofs.skip.Statement.{statement}

@@ -1,5 +1,4 @@
 -- `kernels::cauchypoint::tau` meets its contract. Assumes nothing.
-use mathlib.Core.Path.{_∙_}
 use borrow.Author.Needs.{needs}
 use Rattle.kernels.specs.CauchyPoint.{tau}
 use Rattle.kernels.proofs.cauchypoint.tau.Statement.{statement}

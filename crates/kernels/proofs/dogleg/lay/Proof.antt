@@ -1,8 +1,6 @@
 -- `kernels::dogleg::lay` meets its contract. Assumes nothing.
 use mathlib.Core.Path.{_∙_}
-use native.Mathlib.Omega.{arith}
 use borrow.Author.Needs.{needs}
-use Rattle.kernels.proofs.Rows.{low-room, roomy-same}
 use Rattle.kernels.proofs.Doglegs.{dogleg-none, dogleg-laid}
 use Rattle.kernels.proofs.dogleg.lay.Statement.{statement}
 use Rattle.kernels.proofs.dogleg.lay.Tie as tie

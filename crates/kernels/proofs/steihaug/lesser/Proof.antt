@@ -1,6 +1,4 @@
 -- `kernels::steihaug::lesser` meets its contract. Assumes nothing.
-use mathlib.Core.Path.{sym}
-use borrow.Author.Needs.{needs}
 use Rattle.kernels.proofs.steihaug.lesser.Statement.{statement}
 use Rattle.kernels.proofs.steihaug.lesser.Tie as tie
 

@@ -1,5 +1,5 @@
 -- `kernels::steihaug::run` meets its contract. The loop's invariant: the passes that are left, from the state that w holds, decide. Assumes nothing.
-use mathlib.Core.Path.{_≡_, _∙_, refl}
+use mathlib.Core.Path.{_≡_, refl}
 use Prim.Native.Nat.{_-_, _≤_}
 use native.Mathlib.Nat.{sub-zero}
 use lib.ListN.{length}

@@ -1,5 +1,4 @@
 -- `shortest::digits::reached` meets its contract. Assumes nothing.
-use Prim.Native.Nat.{_-_}
 use native.Mathlib.Nat.{one-mul}
 use borrow.Author.Needs.{needs}
 use Rattle.shortest.proofs.digits.reached.Statement.{statement}

@@ -1,6 +1,6 @@
 -- `shortest::whole::repeat` meets its contract. What is left to multiply by and what is there make the whole. Assumes nothing.
 use mathlib.Core.Path.{_≡_, refl, sym, _∙_}
-use Prim.Native.Nat.{_-_, _*_, _^_}
+use Prim.Native.Nat.{_*_, _^_}
 use native.Mathlib.Omega.{arith}
 use lib.ListN.{length}
 use Rattle.shortest.specs.Whole.{value, cap}

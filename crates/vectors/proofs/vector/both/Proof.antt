@@ -1,5 +1,4 @@
 -- `vectors::vector::both` meets its contract. Assumes nothing.
-use borrow.Author.Needs.{needs}
 use Rattle.vectors.proofs.vector.both.Statement.{statement}
 use Rattle.vectors.proofs.vector.both.Tie as tie
 
