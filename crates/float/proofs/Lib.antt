@@ -6,3 +6,4 @@ pub mod Commute
 pub mod Order
 pub mod Values
 pub mod Signs
+pub mod Quarter

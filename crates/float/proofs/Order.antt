@@ -1,4 +1,4 @@
--- `le` and `lt` order the floats that are no NaN: they are transitive in every mix, and where one fails the other holds, at every value,
+-- `le` and `lt` order the floats that are no NaN: they are transitive, and where one fails the other holds, at every value,
 -- infinities and zeros of either sign among them. Assumes nothing.
 -- A value that is no NaN is a signed fraction, an infinity 1 / 0. `le` is the order of the fractions; `lt` is where `le` fails the other way round.
 use mathlib.Core.Path.{_≡_, refl, sym, ap, _∙_, subst}
@@ -16,9 +16,6 @@ use Rattle.float.proofs.Nan.{real}
 use Rattle.float.proofs.Three.{Three, below, equal, above, three}
 
 -- ---- small things
-left : (a b : ℕ) → 0 < a → 0 < a + b
-left a b h = omega arith
-
 right : (a b : ℕ) → 0 < b → 0 < a + b
 right a b h = omega arith
 
@@ -265,7 +262,16 @@ le-self x p = AtMost→le x x p p (self (sign x) (top x) (bottom x))
     self true a c = le-refl (a * c)
     self false a c = le-refl (a * c)
 
--- ---- transitive, in every mix
+-- and nothing is below itself
+pub lt-self : (x : Float) → lt x x ≡ false
+lt-self x = pick (lt x x) refl where
+  pick : (b : Bool) → lt x x ≡ b → b ≡ false
+  pick false e = refl
+  pick true e =
+      let t : T (lt x x) = subst T (sym e) tt in
+      absurd (lt-not-le x x t (le-self x (lt-real x x t .0)))
+
+-- ---- transitive
 pub le-le-trans : (x y z : Float) → T (le x y) → T (le y z) → T (le x z)
 le-le-trans x y z h k =
     let a = le-real x y h in
@@ -274,9 +280,3 @@ le-le-trans x y z h k =
 
 pub le-lt-trans : (x y z : Float) → T (le x y) → T (lt y z) → T (lt x z)
 le-lt-trans x y z h k = lt-of-not-le x z (le-real x y h .0) (lt-real y z k .1) (λ g. lt-not-le y z k (le-le-trans z x y g h))
-
-pub lt-le-trans : (x y z : Float) → T (lt x y) → T (le y z) → T (lt x z)
-lt-le-trans x y z h k = lt-of-not-le x z (lt-real x y h .0) (le-real y z k .1) (λ g. lt-not-le x y h (le-le-trans y z x k g))
-
-pub lt-lt-trans : (x y z : Float) → T (lt x y) → T (lt y z) → T (lt x z)
-lt-lt-trans x y z h k = le-lt-trans x y z (lt→le x y h) k

@@ -1,25 +1,25 @@
 -- Laws of Steihaug's roots and passes. Assumes nothing.
 use mathlib.Core.Path.{_≡_, refl, sym, _∙_, ap, subst}
 use mathlib.Core.Bool.{Bool, true, false, cond, _&&_, _||_}
-use lib.Dec.{T, leb}
+use lib.Dec.{leb}
 use mathlib.Core.List.{List, [], _∷_, _++_, map}
 use Prim.Native.Nat.{ℕ, zero, suc, _+_, _*_, _-_, _<_, _≤_}
 use native.Mathlib.Numerals.{add-one}
 use native.Mathlib.Omega.{arith}
-use lib.ListN.{length, take, drop}
+use lib.ListN.{length, take}
 use lib.Seq.{take-at, length-take-le}
 use lib.Ieee.{Float, lt, le, neg, isNan}
 use Rattle.float.specs.Numbers.{_⊕_, _⊖_, _⊗_, _⊘_, square, finite}
 use Rattle.float.specs.Constants.{nought, one, two, half}
-use Rattle.float.proofs.Order.{lt-real, lt-not-le, le-self}
+use Rattle.float.proofs.Order.{lt-self}
 use Rattle.root.specs.Root.{root}
 use Rattle.vectors.specs.Slots.{slot, Puts}
-use Rattle.vectors.specs.Vector.{dot, norm, times, weighted, plus, scale, zeros}
+use Rattle.vectors.specs.Vector.{dot, norm, times, weighted, scale, zeros}
 use Rattle.kernels.specs.Workspace.{each}
 use Rattle.vectors.specs.Refusal.{Answer, refused, given, then, number}
 use Rattle.vectors.specs.Calls.{tells}
 use Rattle.kernels.specs.Kernel.{Made, made, handed-out, Proper, stepped, Laid}
-use Rattle.kernels.specs.Steihaug.{roots, roots-at, listed, ahead, model, valued, lesser, least-from, any-nan, by-model, larger, largest-from, forward, State, Pass, stops, goes-on, after, stops-at, curved, crossing, onward, straight, pass, run, steihaug, start, state-in, Keeps}
+use Rattle.kernels.specs.Steihaug.{roots, roots-at, listed, ahead, model, valued, lesser, any-nan, by-model, larger, largest-from, forward, State, Pass, stops, goes-on, after, stops-at, curved, crossing, onward, straight, pass, run, steihaug, start, state-in, Keeps}
 use Rattle.kernels.specs.declared.kernel.Stepped.{Stepped}
 use Rattle.vectors.specs.declared.refusal.Refusal.{Refusal}
 use Rattle.vectors.specs.declared.refusal.Refusal.the-variants.{Root}
@@ -84,14 +84,6 @@ module _ (a b c : Valued) where
       → given (y .tau) ≡ by-model (a ∷ b ∷ c ∷ [])
   unfolding by-model
   no-nan x y e f h i j = rw (e, f, h) (ap (λ (v : Valued). given (v .tau)) (j ∙ ap (λ (v : Valued). lesser v c) i))
-
-lt-self : (x : Float) → lt x x ≡ false
-lt-self x = pick (lt x x) refl where
-  pick : (b : Bool) → lt x x ≡ b → b ≡ false
-  pick false e = refl
-  pick true e =
-      let t : T (lt x x) = subst T (sym e) tt in
-      absurd (lt-not-le x x t (le-self x (lt-real x x t .0)))
 
 -- the second again in the third's place changes nothing
 module _ (a b : Valued) where

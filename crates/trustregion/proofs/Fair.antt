@@ -9,6 +9,7 @@ use Rattle.float.specs.Numbers.{_⊖_, _⊗_, finite, magnitude}
 use Rattle.float.specs.Constants.{nought, two, quarter, three-quarters, ten-epsilons}
 use Rattle.float.proofs.Order.{lt-real, le-lt-trans}
 use Rattle.float.proofs.Signs.{sub-above, div-above, smaller-le}
+use Rattle.float.proofs.Quarter.{quarter-within}
 use Rattle.vectors.specs.Refusal.{given}
 use Rattle.kernels.specs.Kernel.{Kernel, positive, bounded}
 use Rattle.trustregion.specs.Settings.{in-range}
@@ -19,7 +20,6 @@ use Rattle.trustregion.specs.Demand3.{Fair, Within}
 use Rattle.trustregion.specs.declared.settings.Settings.{Settings}
 use Rattle.trustregion.specs.declared.session.Session.{Session}
 use Rattle.offer.proofs.Checks.{cond-elim}
-use Rattle.trustregion.proofs.Quarter.{quarter-within}
 use Rattle.trustregion.proofs.Answers.{Came, refuses, offers, judges, renews, comes}
 
 -- ---- what `sound` says of eta and max_radius

@@ -2,7 +2,6 @@ pub mod Answers
 pub mod Alike
 pub mod Replay
 pub mod Trials
-pub mod Quarter
 pub mod Fair
 pub mod Demand3
 pub mod Cases
