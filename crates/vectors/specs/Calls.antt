@@ -4,6 +4,7 @@ use mathlib.Core.List.{List, [], _∷_}
 use Prim.Native.Nat.{ℕ, _*_}
 use lib.Dec.{ltb}
 use lib.Ieee.{Float}
+use Rattle.float.specs.Constants.{nought}
 use Rattle.vectors.specs.Vector.{dot, norm, row, times, weighted}
 use Rattle.vectors.specs.Refusal.{Answer, refused, given, Check, _if_, unless, size, sized}
 use Rattle.vectors.specs.declared.refusal.Refusal.the-variants.{Size}
@@ -14,6 +15,11 @@ use Rattle.vectors.specs.declared.vector.Number.the-variants.{Is, Refuse
 abbrev pub tells : Number → Answer Float
 tells (Is x) = given x
 tells (Refused r) = refused r
+
+-- and its number: +0 where there is none
+abbrev pub value-of : Number → Float
+value-of (Is x) = x
+value-of (Refused r) = nought
 
 -- dot(n, a, b) refuses by 1, or gives the dot
 abbrev pub dot-checks : ℕ → (a b : List Float) → List Check

@@ -85,8 +85,5 @@ pub fn shaped(n: usize, h: usize, a: usize, b: usize) -> bool
     if !matrix(n, h) {
         return false;
     }
-    if a != n {
-        return false;
-    }
-    b == n
+    vectors(n, a, b)
 }

@@ -8,12 +8,22 @@ ghost use Prim.Native.Nat.{_<_};
 ghost use lib.ListN.{length};
 ghost use Rattle.vectors.specs.Vector as Vector;
 ghost use Rattle.vectors.specs.Refusal.{Square, Wrote};
-ghost use Rattle.vectors.specs.Calls.{tells, dot-answer, norm-answer, weighted-answer, product-answer, row-part};
+ghost use Rattle.vectors.specs.Calls.{tells, value-of, dot-answer, norm-answer, weighted-answer, product-answer, row-part};
 
 // A number, or why there is none.
 pub enum Number {
     Is(f64),
     Refused(Refusal),
+}
+
+// The number, and +0 where there is none.
+pub fn value(x: Number) -> f64
+    ensures { λ r. ⌜ r ≡ value-of x ⌝ }
+{
+    match x {
+        Number::Is(v) => v,
+        Number::Refused(_) => 0.0,
+    }
 }
 
 fn both(a: bool, b: bool) -> bool
@@ -37,6 +47,27 @@ pub fn all_finite(v: &[f64]) -> bool
         i += 1;
     }
     all
+}
+
+// The entries of two lists.
+pub fn both_finite(a: &[f64], b: &[f64]) -> bool
+    ensures { λ r. ⌜ r ≡ (Vector.all-finite (now (a .entry)) && Vector.all-finite (now (b .entry))) ⌝ }
+{
+    if !all_finite(a) {
+        return false;
+    }
+    all_finite(b)
+}
+
+// +0 throughout.
+pub fn clear(w: &mut [f64])
+    ensures { λ _. ⌜ now (w .exit) ≡ Vector.zeros (length (now (w .entry))) ⌝ }
+{
+    let mut i = 0;
+    while i < w.len() {
+        w[i] = 0.0;
+        i += 1;
+    }
 }
 
 // Row i, as that part of the caller's own matrix.
