@@ -17,42 +17,31 @@ record Case : Type 0 where
   matrix : List Float
   inverse : Answer (List Float)
 
+abbrev _by_gives_ : ℕ → List Float → Answer (List Float) → Case
+n by matrix gives inverse = record { n = n; matrix = matrix; inverse = inverse }
+
+infix 20 _by_gives_
+-- +0, and 2 ^ k
+abbrev o : Float
+o = fin false 0 (pos 0)
+
+abbrev p : ℕ → Float
+p k = fin false 1 (pos k)
+
 cases : List Case
 cases =
-    record {
-      n = 2;
-      matrix = fin false 0 (pos 0) ∷ fin false 1 (pos 1) ∷ fin false 1 (pos 2) ∷ fin false 0 (pos 0) ∷ [];
-      inverse = given (fin false 0 (pos 0) ∷ fin false 1 (negsuc 1) ∷ fin false 1 (negsuc 0) ∷ fin false 0 (pos 0) ∷ []);
-    }
-    ∷ record {
-      n = 2;
-      matrix = fin false 1 (pos 0) ∷ fin false 1 (pos 1) ∷ fin false 1 (pos 1) ∷ fin false 1 (pos 2) ∷ [];
-      inverse = refused Pivot;
-    }
-    ∷ record {
-      n = 3;
-      matrix =
-          fin false 1 (pos 1) ∷ fin false 1 (pos 0) ∷ fin false 1 (pos 0)
-          ∷ fin false 1 (pos 2) ∷ fin true 3 (pos 1) ∷ fin false 0 (pos 0)
-          ∷ fin true 1 (pos 1) ∷ fin false 7 (pos 0) ∷ fin false 1 (pos 1) ∷ [];
-      inverse =
-          given
-          (fin false 3 (negsuc 1) ∷ fin true 5 (negsuc 3) ∷ fin true 3 (negsuc 2)
-          ∷ fin false 1 (negsuc 0) ∷ fin true 3 (negsuc 2) ∷ fin true 1 (negsuc 1)
-          ∷ fin true 1 (pos 0) ∷ fin false 1 (pos 0) ∷ fin false 1 (pos 0) ∷ []);
-    }
-    ∷ record {
-      n = 3;
-      matrix =
-          fin false 3 (pos 0) ∷ fin false 1 (pos 0) ∷ fin false 1 (pos 1)
-          ∷ fin false 1 (pos 0) ∷ fin false 7 (pos 0) ∷ fin true 5 (pos 0)
-          ∷ fin false 1 (negsuc 0) ∷ fin false 1 (pos 1) ∷ fin false 9 (pos 0) ∷ [];
-      inverse =
-          given
-          (fin false 803820960386421 (negsuc 50) ∷ fin true 7047197460922047 (negsuc 57) ∷ fin true 6694837587875945 (negsuc 55)
-          ∷ fin true 4052138540030177 (negsuc 55) ∷ fin false 4580678349599331 (negsuc 54) ∷ fin false 5990117841783741 (negsuc 55)
-          ∷ fin true 8456636953106457 (negsuc 59) ∷ fin true 1937979301753563 (negsuc 55) ∷ fin false 110112460326907 (negsuc 49) ∷ []);
-    }
+    (2 by o ∷ p 1 ∷ p 2 ∷ o ∷ [] gives given (o ∷ fin false 1 (negsuc 1) ∷ fin false 1 (negsuc 0) ∷ o ∷ []))
+    ∷ (2 by p 0 ∷ p 1 ∷ p 1 ∷ p 2 ∷ [] gives refused Pivot)
+    ∷ (3 by p 1 ∷ p 0 ∷ p 0 ∷ p 2 ∷ fin true 3 (pos 1) ∷ o ∷ fin true 1 (pos 1) ∷ fin false 7 (pos 0) ∷ p 1 ∷ [] gives
+    given
+    (fin false 3 (negsuc 1) ∷ fin true 5 (negsuc 3) ∷ fin true 3 (negsuc 2)
+    ∷ fin false 1 (negsuc 0) ∷ fin true 3 (negsuc 2) ∷ fin true 1 (negsuc 1)
+    ∷ fin true 1 (pos 0) ∷ p 0 ∷ p 0 ∷ []))
+    ∷ (3 by fin false 3 (pos 0) ∷ p 0 ∷ p 1 ∷ p 0 ∷ fin false 7 (pos 0) ∷ fin true 5 (pos 0) ∷ fin false 1 (negsuc 0) ∷ p 1 ∷ fin false 9 (pos 0) ∷ [] gives
+    given
+    (fin false 803820960386421 (negsuc 50) ∷ fin true 7047197460922047 (negsuc 57) ∷ fin true 6694837587875945 (negsuc 55)
+    ∷ fin true 4052138540030177 (negsuc 55) ∷ fin false 4580678349599331 (negsuc 54) ∷ fin false 5990117841783741 (negsuc 55)
+    ∷ fin true 8456636953106457 (negsuc 59) ∷ fin true 1937979301753563 (negsuc 55) ∷ fin false 110112460326907 (negsuc 49) ∷ []))
     ∷ []
 
 answer : Case → Answer (List Float)

@@ -1,15 +1,15 @@
 -- Laws of the kernel of a number, and of the sessions' door. Assumes nothing.
 use mathlib.Core.Path.{_≡_, refl, sym, _∙_}
-use mathlib.Core.Bool.{Bool, true, false, cond, not, _&&_}
-use mathlib.Core.List.{List, [], _∷_}
-use Prim.Native.Nat.{ℕ, _*_}
+use mathlib.Core.Bool.{Bool, true, false, cond, _&&_}
+use mathlib.Core.List.{List}
+use Prim.Native.Nat.{ℕ, _*_, _≤_}
 use native.Mathlib.Omega.{arith}
 use lib.Dec.{eqb, leb}
 use lib.ListN.{length}
 use lib.Ieee.{Float}
-use borrow.Author.Tests.{eq-eqb, leb-true}
+use borrow.Author.Tests.{eq-eqb, leb-true, le-leb}
 use Rattle.vectors.specs.Refusal.{size, sized, room}
-use Rattle.kernels.specs.Kernel.{Kernel, Proper, Laid}
+use Rattle.kernels.specs.Kernel.{Proper, Laid}
 use Rattle.kernels.specs.CauchyPoint.{cauchy-point}
 use Rattle.kernels.specs.Dogleg.{dogleg}
 use Rattle.kernels.specs.Steihaug.{steihaug}
@@ -17,6 +17,8 @@ use Rattle.kernels.specs.Choice.{kernel, door}
 use Rattle.vectors.specs.declared.refusal.Refusal.the-variants.{Size, Setting}
 use Rattle.kernels.specs.declared.kernel.Stepped.{Stepped}
 use Rattle.kernels.specs.declared.kernel.Stepped.the-variants.{Refused}
+use Rattle.vectors.proofs.Sizes.{square-test}
+use Rattle.kernels.proofs.Kernels.{Lent}
 use Rattle.kernels.proofs.CauchyPoints.{cauchy-proper}
 use Rattle.kernels.proofs.Doglegs.{dogleg-proper}
 use Rattle.kernels.proofs.Passes.{steihaug-proper}
@@ -38,6 +40,13 @@ not-both : (a b : Bool) → (a ≡ true → b ≡ true → ⊥) → (a && b) ≡
 not-both true true h = absurd (h refl refl)
 not-both true false h = refl
 not-both false b h = refl
+
+-- past the checks of a direct caller the door is open
+pub opened : (choice : ℕ) (epsilon : Float) (limit n : ℕ) (radius : Float) (g H w : List Float) {s : ℕ} → Lent n (length H) (length g) s (length w) → 1 ≤ choice → choice ≤ 3
+    → door choice epsilon limit n radius g H w ≡ kernel choice epsilon limit n radius g H
+unfolding door
+opened choice epsilon limit n radius g H w l p q =
+    simp (square-test (l .square), eq-eqb (length g) n (l .gradient), eq-eqb (length w) (room n) (l .roomy .long), le-leb 1 choice p, le-leb choice 3 q)
 
 -- the sizes, where the length of a step is tested too and is n
 no-step : (n h g scratch : ℕ) → (size n && eqb h (n * n) && eqb g n && eqb n n && eqb scratch (room n)) ≡ (size n && eqb h (n * n) && eqb g n && eqb scratch (room n))

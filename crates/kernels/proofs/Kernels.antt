@@ -135,9 +135,6 @@ laid-length n (given m) w₁ w p l = ap (λ (k : ℕ). m .step ++ zeros (k - len
 pub laid-same : (n : ℕ) (a b : Answer Made) (r : Stepped) (w₁ w w′ : List Float) → Proper n b → a ≡ b → length w₁ ≡ length w → Laid a r w₁ w′ → Laid b r w w′
 laid-same n a b r w₁ w w′ p e l h = record { says = h .says ∙ ap stepped e; lays = h .lays ∙ ap (λ (x : Answer Made). laid-out x w₁) e ∙ laid-length n b w₁ w p l }
 
-pub laid-none : (cs : List Check) (a : Answer Made) (r : Refusal) (w : List Float) → Early cs → judged cs ≡ Failed r → Laid (unless cs a) (Refused r) w w
-laid-none cs a r w h e = rw (unless-failed cs a r e) (record { says = refl; lays = rw (early cs r h e) })
-
 -- `settle`, by the test of the step
 module _ (n k passes : ℕ) (w u : List Float) (e : u ≡ slot w n k) where
   pub unsettled : (w′ : List Float) → sound-step u ≡ false → w′ ≡ zeros (length w) → Laid (handed-out (made passes (slot w n k))) (Refused Range) w w′

@@ -1,11 +1,12 @@
 // CauchyPoint: the minimum of the model along the steepest descent, within the radius
 // (Nocedal and Wright, Numerical Optimization, section 4.1).
+use crate::choice;
 use crate::inner;
 use crate::kernel;
 use crate::kernel::Stepped;
+use crate::kernel::Told;
 use crate::workspace;
 use crate::workspace::Op;
-use vectors::refusal::Verdict;
 use vectors::vector;
 ghost use mathlib.Core.Path.{_≡_};
 ghost use mathlib.Core.Bool.{true};
@@ -55,20 +56,12 @@ pub fn cauchy_point(
     ensures { λ r. ⌜ Took (called true CauchyPoint.cauchy-point n radius (now (gradient .entry)) (now (hessian .entry)) (now (step .entry)) (now (scratch .entry)))
         r (now (step .entry)) (now (step .exit)) (now (scratch .entry)) (now (scratch .exit)) ⌝ }
 {
-    let verdict = kernel::checked(
-        true,
-        n,
-        radius,
-        gradient,
-        hessian,
-        step.len(),
-        scratch.len(),
-    );
-    match verdict {
-        Verdict::Failed(r) => Stepped::Refused(r),
-        Verdict::Passed => {
-            let found = lay(n, radius, gradient, hessian, scratch);
-            kernel::hand_over(n, found, step, scratch)
-        }
-    }
+    let told = Told {
+        kernel: 1,
+        radius: radius,
+        epsilon: 1.0,
+        limit: 0,
+        sound: true,
+    };
+    choice::direct(told, n, gradient, hessian, step, scratch)
 }

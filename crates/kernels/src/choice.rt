@@ -1,11 +1,15 @@
-// The choice of a kernel by its number: one door for both sessions.
+// The choice of a kernel by its number: one door for both sessions, and the way that every direct caller goes.
 use crate::cauchypoint;
 use crate::dogleg;
 use crate::kernel;
 use crate::kernel::Stepped;
+use crate::kernel::Told;
 use crate::steihaug;
 use vectors::refusal::Refusal;
-ghost use Rattle.kernels.specs.Kernel.{Laid};
+use vectors::refusal::Verdict;
+ghost use Prim.Native.Nat.{_≤_};
+ghost use Rattle.kernels.specs.Kernel.{Laid, Took, called};
+ghost use Rattle.kernels.specs.Choice as Choice;
 ghost use Rattle.kernels.specs.Choice.{door};
 
 // A session has made its own checks; here stand those without which no kernel can run. The step is left in the scratch.
@@ -35,4 +39,31 @@ pub fn lay(
         return steihaug::lay(n, radius, epsilon, limit, gradient, hessian, scratch);
     }
     Stepped::Refused(Refusal::Setting)
+}
+
+// A kernel for a direct caller: refusals 1, 2 and 4 before the door, and the copy after it.
+pub(crate) fn direct(
+    told: Told,
+    n: usize,
+    g: &[f64],
+    h: &[f64],
+    step: &mut [f64],
+    w: &mut [f64],
+) -> Stepped
+    requires { ⌜ (1 ≤ told .kernel) × (told .kernel ≤ 3) ⌝ }
+    ensures { λ r. ⌜ Took (called (told .sound) (Choice.kernel (told .kernel) (told .epsilon) (told .limit)) n (told .radius) (now (g .entry)) (now (h .entry)) (now (step .entry)) (now (w .entry)))
+        r (now (step .entry)) (now (step .exit)) (now (w .entry)) (now (w .exit)) ⌝ }
+{
+    let kernel = told.kernel;
+    let radius = told.radius;
+    let epsilon = told.epsilon;
+    let limit = told.limit;
+    let verdict = kernel::checked(told.sound, n, radius, g, h, step.len(), w.len());
+    match verdict {
+        Verdict::Failed(r) => Stepped::Refused(r),
+        Verdict::Passed => {
+            let found = lay(kernel, n, radius, epsilon, limit, g, h, w);
+            kernel::hand_over(n, found, step, w)
+        }
+    }
 }

@@ -1,13 +1,14 @@
 // Dogleg: along the steepest descent to its minimum, then towards Newton's point, up to the radius
 // (Nocedal and Wright, Numerical Optimization, section 4.1).
+use crate::choice;
 use crate::inner;
 use crate::inverse;
 use crate::kernel;
 use crate::kernel::Stepped;
+use crate::kernel::Told;
 use crate::workspace;
 use crate::workspace::Op;
 use vectors::refusal::Refusal;
-use vectors::refusal::Verdict;
 use vectors::vector;
 ghost use mathlib.Core.Path.{_≡_};
 ghost use mathlib.Core.Bool.{true};
@@ -99,7 +100,7 @@ pub(crate) fn lay(n: usize, radius: f64, g: &[f64], h: &[f64], w: &mut [f64]) ->
     ensures { λ r. ⌜ Laid (Dogleg.dogleg n radius (now (g .entry)) (now (h .entry))) r (now (w .entry)) (now (w .exit)) ⌝ }
 {
     if !inverse::eliminate(n, w, h) {
-        workspace::clear(w);
+        vector::clear(w);
         return Stepped::Refused(Refusal::Pivot);
     }
     newton(n, w, g);
@@ -119,20 +120,12 @@ pub fn dogleg(
     ensures { λ r. ⌜ Took (called true Dogleg.dogleg n radius (now (gradient .entry)) (now (hessian .entry)) (now (step .entry)) (now (scratch .entry)))
         r (now (step .entry)) (now (step .exit)) (now (scratch .entry)) (now (scratch .exit)) ⌝ }
 {
-    let verdict = kernel::checked(
-        true,
-        n,
-        radius,
-        gradient,
-        hessian,
-        step.len(),
-        scratch.len(),
-    );
-    match verdict {
-        Verdict::Failed(r) => Stepped::Refused(r),
-        Verdict::Passed => {
-            let found = lay(n, radius, gradient, hessian, scratch);
-            kernel::hand_over(n, found, step, scratch)
-        }
-    }
+    let told = Told {
+        kernel: 2,
+        radius: radius,
+        epsilon: 1.0,
+        limit: 0,
+        sound: true,
+    };
+    choice::direct(told, n, gradient, hessian, step, scratch)
 }

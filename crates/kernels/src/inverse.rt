@@ -217,10 +217,10 @@ pub fn inverse(n: usize, h: &[f64], out: &mut [f64], scratch: &mut [f64]) -> Out
         return Outcome::Refused(Refusal::Entry);
     }
     if !eliminate(n, scratch, h) {
-        workspace::clear(scratch);
+        vector::clear(scratch);
         return Outcome::Refused(Refusal::Pivot);
     }
     hand_out(n, scratch, out);
-    workspace::clear(scratch);
+    vector::clear(scratch);
     Outcome::Written
 }

@@ -12,7 +12,7 @@ ghost use Prim.Native.Nat.{_+_, _*_, _≤_};
 ghost use lib.Dec.{eqb};
 ghost use lib.ListN.{length, drop};
 ghost use lib.Ieee.{Float};
-ghost use Rattle.vectors.specs.Vector.{zeros, all-finite};
+ghost use Rattle.vectors.specs.Vector.{zeros};
 ghost use Rattle.vectors.specs.Slots.{slot};
 ghost use Rattle.vectors.specs.Refusal.{size, room, judged};
 ghost use Rattle.kernels.specs.Kernel as Kernel;
@@ -24,14 +24,34 @@ pub enum Stepped {
     Refused(Refusal),
 }
 
+// What a kernel is told beside its lists: its number, and its settings. Epsilon and the limit are Steihaug's,
+// and `sound` says whether the kernel's own settings are in range.
+pub(crate) struct Told {
+    pub kernel: u64,
+    pub radius: f64,
+    pub epsilon: f64,
+    pub limit: u64,
+    pub sound: bool,
+}
+
 // Finite, and above zero.
-pub(crate) fn positive(x: f64) -> bool
+pub fn positive(x: f64) -> bool
     ensures { λ r. ⌜ r ≡ Kernel.positive x ⌝ }
 {
     if !float::finite(x) {
         return false;
     }
     0.0 < x
+}
+
+// Steihaug's epsilon and iteration limit.
+pub fn bounded(epsilon: f64, limit: u64) -> bool
+    ensures { λ r. ⌜ r ≡ Kernel.bounded epsilon limit ⌝ }
+{
+    if !positive(epsilon) {
+        return false;
+    }
+    limit <= 10000
 }
 
 // Every number of a step is finite, and so is its norm.
@@ -64,16 +84,6 @@ fn settings_right(radius: f64, settings: bool) -> bool
     settings
 }
 
-// The entries of the gradient and of the matrix.
-fn entries_finite(g: &[f64], h: &[f64]) -> bool
-    ensures { λ r. ⌜ r ≡ (all-finite (now (g .entry)) && all-finite (now (h .entry))) ⌝ }
-{
-    if !vector::all_finite(g) {
-        return false;
-    }
-    vector::all_finite(h)
-}
-
 // The checks before a kernel that is called directly; of the step and the scratch only the lengths count.
 pub(crate) fn checked(
     settings: bool,
@@ -92,7 +102,7 @@ pub(crate) fn checked(
     if !settings_right(radius, settings) {
         return Verdict::Failed(Refusal::Setting);
     }
-    if !entries_finite(g, h) {
+    if !vector::both_finite(g, h) {
         return Verdict::Failed(Refusal::Entry);
     }
     Verdict::Passed
@@ -104,11 +114,11 @@ pub(crate) fn settle(n: usize, w: &mut [f64], k: usize, passes: u64) -> Stepped
     ensures { λ r. ⌜ Laid (handed-out (made passes (slot (now (w .entry)) n k))) r (now (w .entry)) (now (w .exit)) ⌝ }
 {
     if !sound_step(workspace::part(n, w, k)) {
-        workspace::clear(w);
+        vector::clear(w);
         return Stepped::Refused(Refusal::Range);
     }
     workspace::each(n, w, 0, Op::Same, k, k);
-    workspace::clear(&mut w[n..]);
+    vector::clear(&mut w[n..]);
     Stepped::In(passes)
 }
 
@@ -122,7 +132,7 @@ pub(crate) fn hand_over(n: usize, found: Stepped, step: &mut [f64], w: &mut [f64
     match found {
         Stepped::In(passes) => {
             workspace::put(n, step, 0, workspace::part(n, w, 0));
-            workspace::clear(&mut w[..n]);
+            vector::clear(&mut w[..n]);
             Stepped::In(passes)
         }
         Stepped::Refused(r) => Stepped::Refused(r),

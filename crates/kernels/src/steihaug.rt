@@ -1,13 +1,14 @@
 // Steihaug: conjugate gradients as far as the radius
 // (Nocedal and Wright, Numerical Optimization, section 7.1).
 // In the scratch w, p is slot 0, r and then s slot 1, d slot 2, H·d slot 3, and q, or p + d·tau, slot 6.
+use crate::choice;
 use crate::inner;
 use crate::kernel;
 use crate::kernel::Stepped;
+use crate::kernel::Told;
 use crate::workspace;
 use crate::workspace::Op;
 use vectors::refusal::Refusal;
-use vectors::refusal::Verdict;
 use vectors::vector;
 use vectors::vector::Number;
 ghost use mathlib.Core.Path.{_≡_};
@@ -298,7 +299,7 @@ fn start(n: usize, w: &mut [f64], g: &[f64]) -> f64
     requires { ⌜ (length (now g) ≡ n) × (8 * n ≤ length (now w)) ⌝ }
     ensures { λ r. ⌜ state-in (now (w .exit)) n r ≡ Steihaug.start n (now (g .entry)) ⌝ }
 {
-    workspace::clear(&mut w[..n]);
+    vector::clear(&mut w[..n]);
     workspace::put(n, w, 1, g);
     workspace::each(n, w, 2, Op::Times(-1.0), 1, 1);
     vector::dot_any(g, g)
@@ -328,22 +329,13 @@ pub(crate) fn lay(
         Exit::Boundary(passes) => kernel::settle(n, w, 6, passes),
         Exit::Inside(passes) => kernel::settle(n, w, 6, passes),
         Exit::Refused(r) => {
-            workspace::clear(w);
+            vector::clear(w);
             Stepped::Refused(r)
         }
     }
 }
 
-// What Steihaug asks of its settings beside the radius.
-fn sound(epsilon: f64, limit: u64) -> bool
-    ensures { λ r. ⌜ r ≡ bounded epsilon limit ⌝ }
-{
-    if !kernel::positive(epsilon) {
-        return false;
-    }
-    limit <= 10000
-}
-
+// The kernel for a direct caller.
 pub fn steihaug(
     n: usize,
     radius: f64,
@@ -357,20 +349,12 @@ pub fn steihaug(
     ensures { λ r. ⌜ Took (called (bounded epsilon limit) (Steihaug.steihaug epsilon limit) n radius (now (gradient .entry)) (now (hessian .entry)) (now (step .entry)) (now (scratch .entry)))
         r (now (step .entry)) (now (step .exit)) (now (scratch .entry)) (now (scratch .exit)) ⌝ }
 {
-    let verdict = kernel::checked(
-        sound(epsilon, limit),
-        n,
-        radius,
-        gradient,
-        hessian,
-        step.len(),
-        scratch.len(),
-    );
-    match verdict {
-        Verdict::Failed(r) => Stepped::Refused(r),
-        Verdict::Passed => {
-            let found = lay(n, radius, epsilon, limit, gradient, hessian, scratch);
-            kernel::hand_over(n, found, step, scratch)
-        }
-    }
+    let told = Told {
+        kernel: 3,
+        radius: radius,
+        epsilon: epsilon,
+        limit: limit,
+        sound: kernel::bounded(epsilon, limit),
+    };
+    choice::direct(told, n, gradient, hessian, step, scratch)
 }

@@ -1,5 +1,4 @@
 // Vectors of n numbers in the lent scratch w. Slot k is its k-th run of n numbers.
-use crate::inner;
 use vectors::vector;
 ghost use mathlib.Core.Path.{_≡_};
 ghost use mathlib.Core.Bool.{false};
@@ -95,7 +94,7 @@ pub(crate) fn times(n: usize, w: &mut [f64], to: usize, h: &[f64], x: usize)
     let start = to * n;
     let mut i = 0;
     while i < n {
-        let y = inner::row_dot(n, h, i, part(n, w, x));
+        let y = vector::dot_any(vector::row(n, h, i), part(n, w, x));
         w[start + i] = y;
         i += 1;
     }
@@ -115,15 +114,4 @@ pub(crate) fn norm(n: usize, w: &[f64], x: usize) -> f64
     ensures { λ r. ⌜ r ≡ Vector.norm (slot (now (w .entry)) n x) ⌝ }
 {
     vector::norm_any(part(n, w, x))
-}
-
-// +0 throughout.
-pub(crate) fn clear(w: &mut [f64])
-    ensures { λ _. ⌜ now (w .exit) ≡ Vector.zeros (length (now (w .entry))) ⌝ }
-{
-    let mut i = 0;
-    while i < w.len() {
-        w[i] = 0.0;
-        i += 1;
-    }
 }

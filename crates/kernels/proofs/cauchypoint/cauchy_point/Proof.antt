@@ -1,39 +1,9 @@
 -- `kernels::cauchypoint::cauchy_point` meets its contract. Assumes nothing.
-use mathlib.Core.Path.{_≡_, refl}
-use mathlib.Core.Bool.{true}
-use lib.ListN.{length}
-use denote.Ref.{now}
 use borrow.Author.Needs.{needs}
-use Rattle.vectors.specs.Refusal.{judged}
-use Rattle.kernels.specs.Kernel.{kernel-checks}
-use Rattle.kernels.proofs.Kernels.{Lent, lent, lay-ready, over-ready, took-none, took}
-use Rattle.kernels.proofs.CauchyPoints.{cauchy-proper}
+use Rattle.kernels.specs.Choice.{kernel}
 use Rattle.kernels.proofs.cauchypoint.cauchy_point.Statement.{statement}
 use Rattle.kernels.proofs.cauchypoint.cauchy_point.Tie as tie
 
--- the verdict is on what was lent
-judges : (c : tie.After-checked) → let a = c .before .before .before .before .before .args in
-    c .checked .result ≡ judged (kernel-checks true (a .n) (a .radius) (now (a .gradient)) (now (a .hessian)) (now (a .step)) (now (a .scratch)))
-judges c = let a = c .before .before .before .before .before .args in c .checked .ensures (now (a .step)) (now (a .scratch)) refl refl
-
--- past the checks the sizes are right
-sizes : (c : tie.After-enum-told) → let a = c .before .before .before .before .before .before .before .args in Lent (a .n) (length (now (a .hessian))) (length (now (a .gradient))) (length (now (a .step))) (length (now (a .scratch)))
-sizes c = let a = c .before .before .before .before .before .before .before .args in lent _ (a .n) (a .radius) (now (a .gradient)) (now (a .hessian)) (now (a .step)) (now (a .scratch)) _ (judges (c .before .before)) (c .enum-told .given .1)
-
-returns-2 : tie.Need-returns-2
-returns-2 c =
-    let handed = c .before .before .before .before in
-    let laid = handed .before .before .before .before .before in
-    let told = laid .before .before in
-    took _ _ _ _ _ _ _ _ (laid .lay .kept .1 .1 .1 .1 .0) (over-ready _ (sizes told) refl .1) (handed .hand-over .ensures) _ _ _ _ _ _ (judges (told .before .before)) (told .enum-told .given .1) (cauchy-proper _ _ _ _) (laid .lay .ensures)
-
 pub cauchy-point-spec : {M : Type 1} → statement M
-cauchy-point-spec =
-    tie.close
-    (tie.spec
-    (λ c κs. search needs) (λ c. search needs) (λ c. search needs)
-    (λ c κs. lay-ready (sizes (c .before)))
-    (λ c κs. let laid = c .before .before .before .before in over-ready _ (sizes (laid .before .before)) (laid .lay .kept .1 .1 .1 .1 .0))
-    (λ c. took-none _ _ _ _ _ _ _ _ (judges (c .before .before .before)) _ _ (c .before .verdict .given .1))
-    (λ c. search needs) (λ c. search needs)
-    returns-2)
+unfolding kernel
+cauchy-point-spec = tie.close (tie.spec (λ c κs. search needs) (λ c. search needs) (λ c. search needs) (λ c. c .before .before .before .before .direct .ensures))

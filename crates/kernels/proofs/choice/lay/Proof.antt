@@ -3,7 +3,7 @@ use lib.ListN.{length}
 use denote.Ref.{now}
 use borrow.Author.Needs.{needs}
 use Rattle.vectors.proofs.Sizes.{failed, passed}
-use Rattle.kernels.proofs.Kernels.{Lent, lent-true}
+use Rattle.kernels.proofs.Kernels.{Lent, lent-true, lay-ready}
 use Rattle.kernels.proofs.Choices.{shut-size, door-first, door-second, door-third, shut-choice}
 use Rattle.kernels.proofs.choice.lay.Statement.{statement}
 use Rattle.kernels.proofs.choice.lay.Tie as tie
@@ -18,19 +18,19 @@ lay-spec =
     (tie.spec
     (λ c κs. search needs)
     (λ c. shut-size _ _ _ _ _ _ _ _ (failed (c .before .sized .ensures) (c .if1 .taken)))
-    (λ c κs. let l = sizes (c .before .before) in (l .square, l .gradient, l .roomy))
+    (λ c κs. lay-ready (sizes (c .before .before)))
     (λ c. search needs)
     (λ c.
     let laid = c .before .before in
     let chosen = laid .before .before in
     door-first _ _ _ _ _ _ _ _ (passed (chosen .before .before .sized .ensures) (chosen .before .if1 .left)) _ _ (chosen .if2 .taken) (laid .lay .ensures))
-    (λ c κs. let l = sizes (c .before .before .before) in (l .square, l .gradient, l .roomy))
+    (λ c κs. lay-ready (sizes (c .before .before .before)))
     (λ c. search needs)
     (λ c.
     let laid = c .before .before in
     let chosen = laid .before .before in
     door-second _ _ _ _ _ _ _ _ (passed (chosen .before .before .before .sized .ensures) (chosen .before .before .if1 .left)) _ _ (chosen .if3 .taken) (laid .lay2 .ensures))
-    (λ c κs. let l = sizes (c .before .before .before .before) in (l .square, l .gradient, l .roomy))
+    (λ c κs. lay-ready (sizes (c .before .before .before .before)))
     (λ c. search needs)
     (λ c.
     let laid = c .before .before in

@@ -14,8 +14,6 @@ entry-spec =
     tie.close
     (tie.spec
     (λ c. search needs) (λ c. search needs)
-    (λ c. omega (arith, row-room (c .pre .0) (c .args .i) (c .pre .1)))
-    (λ c. omega (arith, row-room (c .pre .0) (c .args .i) (c .pre .1)))
-    (λ c. omega (arith, row-room (c .pre .0) (c .args .i) (c .pre .1)))
+    (λ c. omega (arith, row-room (c .pre .0) (c .args .i) (c .pre .1))) (λ c. omega (arith, row-room (c .pre .0) (c .args .i) (c .pre .1))) (λ c. omega (arith, row-room (c .pre .0) (c .args .i) (c .pre .1)))
     (λ c. omega (arith, row-room (c .before .pre .0) (c .before .args .i) (c .before .pre .1)))
     (λ c. let a = c .before .args in sym (at-slot (now (a .w)) (a .n + a .n) (4 + a .i) (a .j) (omega arith))))

@@ -12,10 +12,7 @@ right-row-spec =
     tie.close
     (tie.spec
     (λ c. search needs) (λ c. search needs)
-    (λ c. omega (arith, row-room (c .pre .0) (c .args .i) (c .pre .1)))
-    (λ c. omega (arith, row-room (c .pre .0) (c .args .i) (c .pre .1)))
-    (λ c. omega (arith, row-room (c .pre .0) (c .args .i) (c .pre .1)))
-    (λ c. omega (arith, row-room (c .pre .0) (c .args .i) (c .pre .1)))
+    (λ c. omega (arith, row-room (c .pre .0) (c .args .i) (c .pre .1))) (λ c. omega (arith, row-room (c .pre .0) (c .args .i) (c .pre .1))) (λ c. omega (arith, row-room (c .pre .0) (c .args .i) (c .pre .1))) (λ c. omega (arith, row-room (c .pre .0) (c .args .i) (c .pre .1)))
     (λ c. search needs) (λ c. search needs)
     (λ c. omega (arith, row-room (c .pre .0) (c .args .i) (c .pre .1)))
     (λ c.

@@ -16,8 +16,8 @@ checked-spec =
     (λ c s w e f.
     let settings = c .before .before in
     let sizes = settings .before .before in
-    rw (e, f, passed (sizes .before .sized .ensures) (sizes .if1 .left), passed (settings .before .settings-right .ensures) (settings .if2 .left), failed (c .before .entries-finite .ensures) (c .if3 .taken)))
+    rw (e, f, passed (sizes .before .sized .ensures) (sizes .if1 .left), passed (settings .before .settings-right .ensures) (settings .if2 .left), failed (c .before .both-finite .ensures) (c .if3 .taken)))
     (λ c s w e f.
     let settings = c .before .before in
     let sizes = settings .before .before in
-    rw (e, f, passed (sizes .before .sized .ensures) (sizes .if1 .left), passed (settings .before .settings-right .ensures) (settings .if2 .left), passed (c .before .entries-finite .ensures) (c .if3 .left))))
+    rw (e, f, passed (sizes .before .sized .ensures) (sizes .if1 .left), passed (settings .before .settings-right .ensures) (settings .if2 .left), passed (c .before .both-finite .ensures) (c .if3 .left))))

@@ -1,42 +1,12 @@
 -- `kernels::steihaug::steihaug` meets its contract. Assumes nothing.
-use mathlib.Core.Path.{_≡_, refl}
-use lib.ListN.{length}
-use denote.Ref.{now}
 use borrow.Author.Needs.{needs}
-use Rattle.vectors.specs.Refusal.{judged}
-use Rattle.kernels.specs.Kernel.{bounded, kernel-checks}
-use Rattle.kernels.proofs.Kernels.{Lent, lent, lay-ready, over-ready, took-none, took}
-use Rattle.kernels.proofs.Passes.{steihaug-proper}
+use Rattle.kernels.specs.Choice.{kernel}
 use Rattle.kernels.proofs.steihaug.steihaug.Statement.{statement}
 use Rattle.kernels.proofs.steihaug.steihaug.Tie as tie
 
--- the verdict is on what was lent
-judges : (c : tie.After-checked) → let a = c .before .before .before .before .before .before .args in
-    c .checked .result ≡ judged (kernel-checks (bounded (a .epsilon) (a .limit)) (a .n) (a .radius) (now (a .gradient)) (now (a .hessian)) (now (a .step)) (now (a .scratch)))
-judges c = let a = c .before .before .before .before .before .before .args in rw (c .before .sound .ensures) at (c .checked .ensures (now (a .step)) (now (a .scratch)) refl refl)
-
--- past the checks the sizes are right
-sizes : (c : tie.After-enum-told) → let a = c .before .before .before .before .before .before .before .before .args in Lent (a .n) (length (now (a .hessian))) (length (now (a .gradient))) (length (now (a .step))) (length (now (a .scratch)))
-sizes c = let a = c .before .before .before .before .before .before .before .before .args in lent _ (a .n) (a .radius) (now (a .gradient)) (now (a .hessian)) (now (a .step)) (now (a .scratch)) _ (judges (c .before .before)) (c .enum-told .given .1)
-
 returns : tie.Need-returns
-returns c = took-none _ _ _ _ _ _ _ _ (judges (c .before .before .before)) _ _ (c .before .verdict .given .1)
-
-returns-2 : tie.Need-returns-2
-returns-2 c =
-    let handed = c .before .before .before .before in
-    let laid = handed .before .before .before .before .before in
-    let told = laid .before .before in
-    took _ _ _ _ _ _ _ _ (laid .lay .kept .1 .1 .1 .1 .1 .1 .0) (over-ready _ (sizes told) refl .1) (handed .hand-over .ensures) _ _ _ _ _ _ (judges (told .before .before)) (told .enum-told .given .1)
-    (steihaug-proper _ _ _ _ _ _) (laid .lay .ensures)
+unfolding kernel
+returns c = let asked = c .before .before .before .before in rw (asked .before .before .before .bounded .ensures) at (asked .direct .ensures)
 
 pub steihaug-spec : {M : Type 1} → statement M
-steihaug-spec =
-    tie.close
-    (tie.spec
-    (λ c κs. search needs) (λ c κs. search needs) (λ c. search needs) (λ c. search needs)
-    (λ c κs. lay-ready (sizes (c .before)))
-    (λ c κs. let laid = c .before .before .before .before in over-ready _ (sizes (laid .before .before)) (laid .lay .kept .1 .1 .1 .1 .1 .1 .0))
-    returns
-    (λ c. search needs) (λ c. search needs)
-    returns-2)
+steihaug-spec = tie.close (tie.spec (λ c κs. search needs) (λ c κs. search needs) (λ c. search needs) (λ c. search needs) returns)

@@ -8,28 +8,20 @@ use Rattle.vectors.proofs.Slots.{Writing, writing-none, writing-read, writing-m
 use Rattle.kernels.proofs.workspace.each.Statement.{statement}
 use Rattle.kernels.proofs.workspace.each.Tie as tie
 
-abbrev Inv-loop : tie.InvT-loop
-Inv-loop n w₀ to op x y start from by i₀ w i = Writing w₀ n to (each-at op (slot w₀ n x) (slot w₀ n y)) w i
-
-abbrev μ-loop : tie.MeasureT-loop
-μ-loop n w₀ to op x y start from by i₀ w i = n - i
-
-loop-again : tie.Need-loop-again Inv-loop μ-loop
-loop-again c =
-    let s = c .before .before .before .before .before .before in
-    let inv = c .before .before .before .before .loop .inv in
-    let h = c .before .before .before .loop-test .taken in
-    writing-more inv h (c .apply .ensures ∙ rw (writing-read inv (s .args .x) h, writing-read inv (s .args .y) h))
-
 pub each-spec : {M : Type 1} → statement M
 unfolding each
 each-spec =
     tie.close
-    (tie.spec Inv-loop μ-loop
+    (tie.spec
+    (λ n w₀ to op x y start from by i₀ w i. Writing w₀ n to (each-at op (slot w₀ n x) (slot w₀ n y)) w i) (λ n w₀ to op x y start from by i₀ w i. n - i)
     (λ c. search needs) (λ c. search needs) (λ c. search needs)
     (λ c. writing-none (search needs))
     (λ c. search needs) (λ c. search needs) (λ c. search needs) (λ c. search needs) (λ c. search needs) (λ c. search needs)
     (λ c κs. search needs) (λ c. search needs) (λ c. search needs) (λ c. search needs) (λ c. search needs) (λ c. search needs)
-    loop-again
+    (λ c.
+    let s = c .before .before .before .before .before .before in
+    let inv = c .before .before .before .before .loop .inv in
+    let h = c .before .before .before .loop-test .taken in
+    writing-more inv h (c .apply .ensures ∙ rw (writing-read inv (s .args .x) h, writing-read inv (s .args .y) h)))
     (λ c. search needs)
     (λ c. writing-done (c .before .loop .inv) (search needs)))

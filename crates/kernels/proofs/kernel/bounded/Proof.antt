@@ -1,11 +1,11 @@
--- `kernels::steihaug::sound` meets its contract. Assumes nothing.
+-- `kernels::kernel::bounded` meets its contract. Assumes nothing.
 use borrow.Author.Needs.{needs}
 use Rattle.vectors.proofs.Sizes.{failed, passed}
-use Rattle.kernels.proofs.steihaug.sound.Statement.{statement}
-use Rattle.kernels.proofs.steihaug.sound.Tie as tie
+use Rattle.kernels.proofs.kernel.bounded.Statement.{statement}
+use Rattle.kernels.proofs.kernel.bounded.Tie as tie
 
-pub sound-spec : {M : Type 1} → statement M
-sound-spec =
+pub bounded-spec : {M : Type 1} → statement M
+bounded-spec =
     tie.close
     (tie.spec
     (λ c κs. search needs)
