@@ -62,3 +62,28 @@ pub record Kind : Type 2 where
   pub typed : {M : Type 1} (𝓤 : URA M) (H : Heap 𝓤) (A : Atoms 𝓤) → Given 𝓤 H A → (r : the-after .Denot) (v : Val) → Is the-after r (v ∷ []) → T (hasTy (tyStruct name (tcons (s .mir) (tcons (o .mir) tnil))) v) × WT v
   pub session-is : (r : the-after .Denot) (vs : List Val) → Is the-after r vs → Is the-session (session r) (s .val (session r) ∷ [])
   pub outcome-is : (r : the-after .Denot) (vs : List Val) → Is the-after r vs → Is the-outcome (outcome r) (o .val (outcome r) ∷ [])
+
+-- the kind of a crate whose `After` is B: what `B`'s own laws say, at its two fields
+abbrev pub a-kind :
+    (S : Struct.Declared) (S′ : StructLaws.Laws S) (p : Plains (Struct.fields S)) (O : Enum.Declared) (O′ : EnumLaws.Laws O) (q : Plainss (Enum.variants O)) (few : Few (Enum.shape O))
+    (B : Struct.Declared) (session : Struct.row B .Denot → Struct.row S .Denot) (outcome : Struct.row B .Denot → Enum.row O .Denot)
+    → let s = a-struct S S′ p in let o = an-enum O O′ q few in let R = Struct.row B in
+    Tells R (Is R) (λ r. vstruct (vcons (s .val (session r)) (vcons (o .val (outcome r)) vnil)) ∷ [])
+    → ((M : Type 1) (𝓤 : URA M) (H : Heap 𝓤) (A : Atoms 𝓤) → Given 𝓤 H A → (r : R .Denot) (v : Val) → Is R r (v ∷ []) → T (hasTy (tyStruct (B .name) (tcons (s .mir) (tcons (o .mir) tnil))) v) × WT v)
+    → ((r : R .Denot) (vs : List Val) → Is R r vs → Is (Struct.row S) (session r) (s .val (session r) ∷ []))
+    → ((r : R .Denot) (vs : List Val) → Is R r vs → Is (Enum.row O) (outcome r) (o .val (outcome r) ∷ []))
+    → Kind
+a-kind S S′ p O O′ q few B session outcome tells typed session-is outcome-is = record {
+  the-session = Struct.row S;
+  the-outcome = Enum.row O;
+  the-after = Struct.row B;
+  s = a-struct S S′ p;
+  o = an-enum O O′ q few;
+  name = B .name;
+  session = session;
+  outcome = outcome;
+  tells = tells;
+  typed = λ 𝓤 H A W r v is. typed _ 𝓤 H A W r v is;
+  session-is = session-is;
+  outcome-is = outcome-is;
+}
