@@ -3,23 +3,18 @@ use mathlib.Core.Path.{_≡_, _∙_}
 use mathlib.Core.Bool.{true}
 use mathlib.Core.List.{List}
 use Prim.Native.Nat.{ℕ, _*_}
-use native.Mathlib.Omega.{arith}
 use lib.Dec.{eqb}
 use lib.ListN.{length}
 use lib.Ieee.{Float}
 use borrow.Author.Tests.{eq-eqb}
 use Rattle.vectors.specs.Vector.{dot, weighted, norm}
-use Rattle.vectors.specs.Refusal.{given, size, Square}
-use Rattle.vectors.specs.Calls.{tells, dot-answer, weighted-answer, norm-answer}
+use Rattle.vectors.specs.Refusal.{size, Square}
+use Rattle.vectors.specs.Calls.{tells, value-of, dot-answer, weighted-answer, norm-answer}
 use Rattle.vectors.specs.declared.vector.Number.{Number}
-use Rattle.vectors.specs.declared.vector.Number.the-variants as number
 use Rattle.vectors.proofs.Sizes.{both, square-test}
-use Rattle.offer.specs.Calls.{value-of, measured}
+use Rattle.vectors.proofs.Ends.{value-right, weighted-value}
+use Rattle.offer.specs.Calls.{measured}
 use Rattle.offer.specs.declared.Offered.the-variants.{Step}
-
-pub value-right : (x : Number) (v : Float) → tells x ≡ given v → value-of x ≡ v
-value-right (number.Is y) v e = cc
-value-right (number.Refused r) v e = absurd (let z : _≡_ {A = ℕ} 0 1 = cc in omega arith)
 
 module _ (n : ℕ) (g H p : List Float) (s : Square n (length H)) (at-g : length g ≡ n) (at-p : length p ≡ n) where
   right-size : size n ≡ true
@@ -29,6 +24,6 @@ module _ (n : ℕ) (g H p : List Float) (s : Square n (length H)) (at-g : length
       → a ≡ value-of x → b ≡ value-of y → c ≡ value-of z → (passes : ℕ) → Step passes a b c ≡ measured n g H passes p
   measures x y z a b c ex ey ez ea eb ec passes =
       let slope : a ≡ dot p g = ea ∙ value-right x (dot p g) (ex ∙ rw (right-size, eq-eqb (length p) n at-p, eq-eqb (length g) n at-g)) in
-      let curvature : b ≡ weighted n p H p = eb ∙ value-right y (weighted n p H p) (ey ∙ rw (square-test s, eq-eqb (length p) n at-p)) in
+      let curvature : b ≡ weighted n p H p = eb ∙ weighted-value n p H p s at-p at-p y ey in
       let long : c ≡ norm p = ec ∙ value-right z (norm p) (ez ∙ rw (right-size, eq-eqb (length p) n at-p)) in
       rw (slope, curvature, long)

@@ -6,13 +6,10 @@ use Prim.Native.Nat.{ℕ}
 use lib.Dec.{eqb, leb}
 use lib.ListN.{length}
 use lib.Ieee.{Float}
-use Rattle.float.specs.Constants.{nought}
 use Rattle.vectors.specs.Vector.{dot, weighted, norm, all-finite}
 use Rattle.vectors.specs.Refusal.{Answer, refused, given, Check, _if_, unless, then, size, left-in, scratch-after}
 use Rattle.kernels.specs.Choice.{door}
 use Rattle.vectors.specs.declared.refusal.Refusal.the-variants.{Size, Setting, Turn, Entry, Radius}
-use Rattle.vectors.specs.declared.vector.Number.{Number}
-use Rattle.vectors.specs.declared.vector.Number.the-variants.{Is, Refused}
 use Rattle.offer.specs.Offer.{all-sized, Offer, offer}
 use Rattle.offer.specs.declared.Offered.{Offered}
 use Rattle.offer.specs.declared.Offered.the-variants as offered
@@ -39,11 +36,6 @@ proposal-checks n sound ready zero-radius point gradient hessian step trial scra
 -- what a vector becomes that takes the numbers of another: one of another length stays
 abbrev pub replaced : (from to : List Float) → List Float
 replaced from to = cond (eqb (length to) (length from)) from to
-
--- the number that a call on vectors told
-abbrev pub value-of : Number → Float
-value-of (Is x) = x
-value-of (Refused r) = nought
 
 -- ---- a step is offered
 

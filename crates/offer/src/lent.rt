@@ -1,43 +1,20 @@
 // Vectors that a call is lent: their lengths, and writing them whole.
+use vectors::refusal;
 use vectors::vector;
 ghost use mathlib.Core.Path.{_≡_};
 ghost use mathlib.Core.Bool.{_&&_};
 ghost use Prim.Native.Nat.{_*_};
 ghost use lib.Dec.{eqb};
-ghost use lib.ListN.{length};
-ghost use Rattle.vectors.specs.Vector.{zeros, all-finite};
+ghost use Rattle.vectors.specs.Vector.{all-finite};
 ghost use Rattle.vectors.specs.Refusal as Table;
 ghost use Rattle.vectors.specs.Refusal.{room};
 ghost use Rattle.offer.specs.Calls.{replaced};
-
-// n is 1 to 64.
-pub fn size(n: usize) -> bool
-    ensures { λ r. ⌜ r ≡ Table.size n ⌝ }
-{
-    if n < 1 {
-        return false;
-    }
-    n <= 64
-}
-
-// Two vectors.
-pub fn vectors(n: usize, a: usize, b: usize) -> bool
-    ensures { λ r. ⌜ r ≡ (Table.size n && eqb a n && eqb b n) ⌝ }
-{
-    if !size(n) {
-        return false;
-    }
-    if a != n {
-        return false;
-    }
-    b == n
-}
 
 // Two vectors and a matrix.
 pub fn derivatives(n: usize, a: usize, b: usize, h: usize) -> bool
     ensures { λ r. ⌜ r ≡ (Table.size n && eqb a n && eqb b n && eqb h (n * n)) ⌝ }
 {
-    if !vectors(n, a, b) {
+    if !refusal::vectors(n, a, b) {
         return false;
     }
     h == n * n
@@ -67,21 +44,11 @@ pub fn all_sized(
     scratch == 2 * (n * n) + 8 * n
 }
 
-// The entries of two lists.
-pub fn both_finite(a: &[f64], b: &[f64]) -> bool
-    ensures { λ r. ⌜ r ≡ (all-finite (now (a .entry)) && all-finite (now (b .entry))) ⌝ }
-{
-    if !vector::all_finite(a) {
-        return false;
-    }
-    vector::all_finite(b)
-}
-
 // The entries that a proposal reads.
 pub fn inputs_finite(point: &[f64], gradient: &[f64], hessian: &[f64]) -> bool
     ensures { λ r. ⌜ r ≡ (all-finite (now (point .entry)) && all-finite (now (gradient .entry)) && all-finite (now (hessian .entry))) ⌝ }
 {
-    if !both_finite(point, gradient) {
+    if !vector::both_finite(point, gradient) {
         return false;
     }
     vector::all_finite(hessian)
@@ -97,17 +64,6 @@ pub fn copy(from: &[f64], to: &mut [f64])
     let mut i = 0;
     while i < to.len() {
         to[i] = float::one_nan(from[i]);
-        i += 1;
-    }
-}
-
-// +0 throughout.
-pub fn clear(w: &mut [f64])
-    ensures { λ _. ⌜ now (w .exit) ≡ zeros (length (now (w .entry))) ⌝ }
-{
-    let mut i = 0;
-    while i < w.len() {
-        w[i] = 0.0;
         i += 1;
     }
 }

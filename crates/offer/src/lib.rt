@@ -6,7 +6,6 @@ use kernels::choice;
 use kernels::kernel::Stepped;
 use vectors::refusal::Refusal;
 use vectors::vector;
-use vectors::vector::Number;
 ghost use mathlib.Core.Path.{_≡_};
 ghost use Prim.Native.Nat.{_+_, _≤_};
 ghost use lib.ListN.{length};
@@ -16,7 +15,7 @@ ghost use Rattle.vectors.specs.Refusal.{Square};
 ghost use Rattle.kernels.specs.Kernel.{made};
 ghost use Rattle.offer.specs.Offer.{offer};
 ghost use Rattle.offer.specs.Calls as Calls;
-ghost use Rattle.offer.specs.Calls.{value-of, offering, Offers};
+ghost use Rattle.offer.specs.Calls.{offering, Offers};
 
 // A step p, with its passes, p·g, p·H·p and ‖p‖; or why there is none.
 pub enum Offered {
@@ -29,23 +28,14 @@ pub enum Offered {
     },
 }
 
-fn value(x: Number) -> f64
-    ensures { λ r. ⌜ r ≡ value-of x ⌝ }
-{
-    match x {
-        Number::Is(v) => v,
-        Number::Refused(_) => 0.0,
-    }
-}
-
 // What a session keeps of a step.
 fn measured(n: usize, gradient: &[f64], hessian: &[f64], passes: u64, step: &[f64]) -> Offered
     requires { ⌜ Square n (length (now hessian)) × (length (now gradient) ≡ n) × (length (now step) ≡ n) ⌝ }
     ensures { λ r. ⌜ r ≡ Calls.measured n (now (gradient .entry)) (now (hessian .entry)) passes (now (step .entry)) ⌝ }
 {
-    let slope = value(vector::dot(n, step, gradient));
-    let curvature = value(vector::weighted_dot(n, step, hessian, step));
-    let norm = value(vector::norm(n, step));
+    let slope = vector::value(vector::dot(n, step, gradient));
+    let curvature = vector::value(vector::weighted_dot(n, step, hessian, step));
+    let norm = vector::value(vector::norm(n, step));
     Offered::Step {
         passes: passes,
         slope: slope,
@@ -83,12 +73,12 @@ fn hand_out(
 {
     lay_trial(n, point, scratch);
     if !vector::all_finite(&scratch[n..n + n]) {
-        lent::clear(scratch);
+        vector::clear(scratch);
         return Offered::Refused(Refusal::Range);
     }
     lent::copy(&scratch[0..n], step);
     lent::copy(&scratch[n..n + n], trial);
-    lent::clear(scratch);
+    vector::clear(scratch);
     measured(n, gradient, hessian, passes, step)
 }
 

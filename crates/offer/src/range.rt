@@ -5,7 +5,6 @@ use vectors::refusal::Verdict;
 ghost use mathlib.Core.Path.{_≡_};
 ghost use mathlib.Core.Bool.{_&&_};
 ghost use Rattle.vectors.specs.Refusal.{judged};
-ghost use Rattle.kernels.specs.Kernel as Kernel;
 ghost use Rattle.offer.specs.Offer as Offer;
 ghost use Rattle.offer.specs.Calls as Calls;
 
@@ -31,16 +30,6 @@ pub fn all(a: bool, b: bool, c: bool, d: bool, e: bool, f: bool) -> bool
     f
 }
 
-// Finite, and above zero.
-pub fn positive(x: f64) -> bool
-    ensures { λ r. ⌜ r ≡ Kernel.positive x ⌝ }
-{
-    if !float::finite(x) {
-        return false;
-    }
-    0.0 < x
-}
-
 // The number of a kernel.
 pub fn known(kernel: u64) -> bool
     ensures { λ r. ⌜ r ≡ Calls.known kernel ⌝ }
@@ -49,16 +38,6 @@ pub fn known(kernel: u64) -> bool
         return false;
     }
     kernel <= 3
-}
-
-// Steihaug's epsilon and iteration limit.
-pub fn bounded(epsilon: f64, limit: u64) -> bool
-    ensures { λ r. ⌜ r ≡ Kernel.bounded epsilon limit ⌝ }
-{
-    if !positive(epsilon) {
-        return false;
-    }
-    limit <= 10000
 }
 
 // The radius and the cost that a session keeps.

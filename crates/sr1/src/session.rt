@@ -44,10 +44,8 @@ pub fn sound(s: Session) -> bool
     ensures { λ r. ⌜ r ≡ Definition.sound s ⌝ }
 {
     let settings = s.settings;
-    let radius = s.radius;
-    let cost = s.cost;
     let ranged = settings::in_range(settings);
-    let steady = range::steady(radius, cost);
+    let steady = range::steady(s.radius, s.cost);
     range::all(true, true, true, true, ranged, steady)
 }
 

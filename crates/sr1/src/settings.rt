@@ -1,4 +1,5 @@
 // What argmin's SR1TrustRegion is made with.
+use kernels::kernel;
 use offer::range;
 ghost use mathlib.Core.Path.{_≡_};
 ghost use mathlib.Core.Bool.{_&&_};
@@ -49,7 +50,7 @@ impl Settings {
 fn between(x: f64, top: f64) -> bool
     ensures { λ r. ⌜ r ≡ Definition.between x top ⌝ }
 {
-    range::all(true, true, true, true, range::positive(x), x < top)
+    range::all(true, true, true, true, kernel::positive(x), x < top)
 }
 
 // tol_grad is not below 0.
@@ -63,19 +64,12 @@ fn tolerance(x: f64) -> bool
 pub fn in_range(t: Settings) -> bool
     ensures { λ r. ⌜ r ≡ in-range t ⌝ }
 {
-    let kernel = t.kernel;
-    let radius = t.radius;
-    let eta = t.eta;
-    let factor = t.factor;
-    let tol_grad = t.tol_grad;
-    let epsilon = t.epsilon;
-    let limit = t.limit;
     range::all(
-        range::known(kernel),
-        range::positive(float::magnitude(radius)),
-        between(eta, 0.01),
-        between(factor, 1.0),
-        tolerance(tol_grad),
-        range::bounded(epsilon, limit),
+        range::known(t.kernel),
+        kernel::positive(float::magnitude(t.radius)),
+        between(t.eta, 0.01),
+        between(t.factor, 1.0),
+        tolerance(t.tol_grad),
+        kernel::bounded(t.epsilon, t.limit),
     )
 }

@@ -52,36 +52,6 @@ pub fn start(settings: Settings, cost: f64) -> Start
 
 // ---- propose
 
-// Refusals 1 to 4: refusal 5 comes after the test whether the session is done.
-fn proposal_checked(
-    s: Session,
-    n: usize,
-    point: &[f64],
-    gradient: &[f64],
-    hessian: &[f64],
-    step: &[f64],
-    trial: &[f64],
-    scratch: &[f64],
-) -> Verdict
-    ensures { λ r. ⌜ r ≡ judged (proposal-checks s n (now (point .entry)) (now (gradient .entry)) (now (hessian .entry)) (now (step .entry)) (now (trial .entry)) (now (scratch .entry))) ⌝ }
-{
-    let phase = s.phase;
-    let sound = session::sound(s);
-    let ready = session::is_ready(phase);
-    range::proposal(
-        n,
-        sound,
-        ready,
-        false,
-        point,
-        gradient,
-        hessian,
-        step,
-        trial,
-        scratch,
-    )
-}
-
 // Whether the gradient is below the tolerance.
 fn converged(s: Session, gradient: &[f64]) -> bool
     ensures { λ r. ⌜ r ≡ Definition.converged s (now (gradient .entry)) ⌝ }
@@ -176,7 +146,22 @@ pub fn proposed(
     ensures { λ r. ⌜ Proposes (proposal chosen s n (now (point .entry)) (now (gradient .entry)) (now (hessian .entry)) (now (step .entry)) (now (trial .entry)) (now (scratch .entry)))
         s (now (step .entry)) (now (trial .entry)) (now (scratch .entry)) r (now (step .exit)) (now (trial .exit)) (now (scratch .exit)) ⌝ }
 {
-    let checks = proposal_checked(s, n, point, gradient, hessian, step, trial, scratch);
+    let phase = s.phase;
+    let sound = session::sound(s);
+    let ready = session::is_ready(phase);
+    // refusals 1 to 4: refusal 5 comes after the test whether the session is done
+    let checks = range::proposal(
+        n,
+        sound,
+        ready,
+        false,
+        point,
+        gradient,
+        hessian,
+        step,
+        trial,
+        scratch,
+    );
     match checks {
         Verdict::Failed(r) => After {
             session: s,
@@ -184,7 +169,7 @@ pub fn proposed(
         },
         Verdict::Passed => {
             if converged(s, gradient) {
-                lent::clear(scratch);
+                vector::clear(scratch);
                 return After {
                     session: s,
                     outcome: Outcome::Done,
@@ -407,7 +392,7 @@ fn renew(
 {
     lay_residual(n, new_gradient, gradient, hessian, step, scratch);
     let done = update(n, factor, norm, step, &scratch[0..n], hessian);
-    lent::clear(scratch);
+    vector::clear(scratch);
     done
 }
 
@@ -444,7 +429,7 @@ fn judge(
     let ratio = fall_ratio(before, answer, predicted);
     let next = next_radius(ratio, norm, radius);
     if !float::finite(next) {
-        lent::clear(scratch);
+        vector::clear(scratch);
         return After {
             session: s,
             outcome: Outcome::Refused(Refusal::Range),

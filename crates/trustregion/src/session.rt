@@ -45,12 +45,10 @@ pub fn sound(s: Session) -> bool
     ensures { λ r. ⌜ r ≡ Definition.sound s ⌝ }
 {
     let settings = s.settings;
-    let radius = s.radius;
-    let cost = s.cost;
     if !settings::in_range(settings) {
         return false;
     }
-    range::steady(radius, cost)
+    range::steady(s.radius, s.cost)
 }
 
 pub fn is_ready(phase: Phase) -> bool

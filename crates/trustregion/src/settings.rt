@@ -1,4 +1,5 @@
 // What argmin's TrustRegion is made with.
+use kernels::kernel;
 use offer::range;
 ghost use mathlib.Core.Path.{_≡_};
 ghost use mathlib.Core.Bool.{_&&_};
@@ -51,18 +52,12 @@ fn eta_in_range(eta: f64) -> bool
 pub fn in_range(t: Settings) -> bool
     ensures { λ r. ⌜ r ≡ in-range t ⌝ }
 {
-    let kernel = t.kernel;
-    let radius = t.radius;
-    let max_radius = t.max_radius;
-    let eta = t.eta;
-    let epsilon = t.epsilon;
-    let limit = t.limit;
     range::all(
         true,
-        range::known(kernel),
-        range::positive(radius),
-        range::positive(max_radius),
-        eta_in_range(eta),
-        range::bounded(epsilon, limit),
+        range::known(t.kernel),
+        kernel::positive(t.radius),
+        kernel::positive(t.max_radius),
+        eta_in_range(t.eta),
+        kernel::bounded(t.epsilon, t.limit),
     )
 }

@@ -11,6 +11,7 @@ use crate::settings::Settings;
 use offer::Offered;
 use offer::lent;
 use offer::range;
+use vectors::refusal;
 use vectors::refusal::Refusal;
 use vectors::refusal::Verdict;
 use vectors::vector;
@@ -26,7 +27,7 @@ ghost use Rattle.vectors.specs.Vector.{all-finite};
 ghost use Rattle.vectors.specs.Refusal.{judged, size};
 ghost use Rattle.trustregion.specs.Settings.{chosen};
 ghost use Rattle.trustregion.specs.Session as Definition;
-ghost use Rattle.trustregion.specs.Session.{proposal-checks, proposal, judgement-checks, verdict-checks, judgement, renewal-checks, renewal, next-radius};
+ghost use Rattle.trustregion.specs.Session.{proposal, judgement-checks, verdict-checks, judgement, renewal-checks, renewal, next-radius};
 ghost use Rattle.trustregion.specs.Calls.{begun, Proposes, Judges, Renews};
 
 // 10·2^-52, which argmin writes as ten epsilons.
@@ -53,36 +54,6 @@ pub fn start(settings: Settings, cost: f64) -> Start
 }
 
 // ---- propose
-
-fn proposal_checked(
-    s: Session,
-    n: usize,
-    point: &[f64],
-    gradient: &[f64],
-    hessian: &[f64],
-    step: &[f64],
-    trial: &[f64],
-    scratch: &[f64],
-) -> Verdict
-    ensures { λ r. ⌜ r ≡ judged (proposal-checks s n (now (point .entry)) (now (gradient .entry)) (now (hessian .entry)) (now (step .entry)) (now (trial .entry)) (now (scratch .entry))) ⌝ }
-{
-    let phase = s.phase;
-    let radius = s.radius;
-    let sound = session::sound(s);
-    let ready = session::is_ready(phase);
-    range::proposal(
-        n,
-        sound,
-        ready,
-        radius == 0.0,
-        point,
-        gradient,
-        hessian,
-        step,
-        trial,
-        scratch,
-    )
-}
 
 // The model at the trial: (f + p·g) + 0.5·(p·H·p).
 fn model_value(cost: f64, slope: f64, curvature: f64) -> f64
@@ -111,7 +82,21 @@ pub fn proposed(
     let kernel = settings.kernel;
     let epsilon = settings.epsilon;
     let limit = settings.limit;
-    let checks = proposal_checked(s, n, point, gradient, hessian, step, trial, scratch);
+    let phase = s.phase;
+    let sound = session::sound(s);
+    let ready = session::is_ready(phase);
+    let checks = range::proposal(
+        n,
+        sound,
+        ready,
+        radius == 0.0,
+        point,
+        gradient,
+        hessian,
+        step,
+        trial,
+        scratch,
+    );
     match checks {
         Verdict::Failed(r) => After {
             session: s,
@@ -163,7 +148,7 @@ pub fn proposed(
 fn judgement_checked(s: Session, n: usize, point: &[f64], trial: &[f64]) -> Verdict
     ensures { λ r. ⌜ r ≡ judged (judgement-checks s n (now (point .entry)) (now (trial .entry))) ⌝ }
 {
-    let sized = lent::vectors(n, point.len(), trial.len());
+    let sized = refusal::vectors(n, point.len(), trial.len());
     let sound = session::sound(s);
     range::verdict(sized, sound, true, true, false)
 }
@@ -287,7 +272,7 @@ fn renewal_sized(
 ) -> bool
     ensures { λ r. ⌜ r ≡ (size n && eqb «new_gradient» n && eqb «new_hessian» (n * n) && eqb gradient n && eqb hessian (n * n)) ⌝ }
 {
-    if !lent::size(n) {
+    if !refusal::size(n) {
         return false;
     }
     let square = n * n;
@@ -323,7 +308,7 @@ fn renewal_checked(
     );
     let sound = session::sound(s);
     let in_turn = session::awaits_derivatives(phase);
-    let finite = lent::both_finite(new_gradient, new_hessian);
+    let finite = vector::both_finite(new_gradient, new_hessian);
     range::verdict(sized, sound, in_turn, finite, false)
 }
 

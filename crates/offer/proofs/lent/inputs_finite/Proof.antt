@@ -7,8 +7,6 @@ use Rattle.offer.proofs.lent.inputs_finite.Tie as tie
 pub inputs-finite-spec : {M : Type 1} → statement M
 inputs-finite-spec =
     tie.close
-    (tie.spec
-    (λ c κs. search needs)
-    (λ c. rw (failed (c .before .both-finite .ensures) (c .if1 .taken)))
-    (λ c κs. search needs)
+    (tie.spec (λ c κs. search needs)
+    (λ c. rw (failed (c .before .both-finite .ensures) (c .if1 .taken))) (λ c κs. search needs)
     (λ c. rw (passed (c .before .before .both-finite .ensures) (c .before .if1 .left)) (c .all-finite .ensures)))

@@ -9,8 +9,6 @@ pub sound-spec : {M : Type 1} → statement M
 unfolding sound
 sound-spec =
     tie.close
-    (tie.spec
-    (λ c κs. search needs)
-    (λ c. rw (failed (c .before .in-range .ensures) (c .if1 .taken)))
-    (λ c κs. search needs)
+    (tie.spec (λ c κs. search needs)
+    (λ c. rw (failed (c .before .in-range .ensures) (c .if1 .taken))) (λ c κs. search needs)
     (λ c. rw (passed (c .before .before .in-range .ensures) (c .before .if1 .left)) (c .steady .ensures)))

@@ -7,9 +7,7 @@ use Rattle.trustregion.proofs.trustregion_method.verdict_checked.Tie as
 pub verdict-checked-spec : {M : Type 1} → statement M
 verdict-checked-spec =
     tie.close
-    (tie.spec
-    (λ c κs. search needs)
-    (λ c. rw (failed (c .before .answered .ensures) (c .if1 .taken)))
-    (λ c κs. search needs)
+    (tie.spec (λ c κs. search needs)
+    (λ c. rw (failed (c .before .answered .ensures) (c .if1 .taken))) (λ c κs. search needs)
     (λ c. let answer = c .before .before in rw (passed (answer .before .answered .ensures) (answer .if1 .left), failed (c .before .finite .ensures) (c .if2 .taken)))
     (λ c. let answer = c .before .before in rw (passed (answer .before .answered .ensures) (answer .if1 .left), passed (c .before .finite .ensures) (c .if2 .left))))
