@@ -154,11 +154,8 @@ module _ (n low odd s q r u r₁ u₁ d r₂ e : ℕ) (D : Digits) (h : n < 17) 
   pub shortest-more : 2 ≤ e → shortest (17 - (n + 1)) low odd s (10 * q + d) (n + 1) r₂ u₁ ≡ D
   shortest-more g = rw (le-ltb e 2 g, ← add-one n) at opened
 
-  pub shortest-number : e < 2 → 10 * q + d + e ≡ D .number
-  shortest-number g = ap (λ (x : Digits). x .number) (rw (lt-ltb e 2 g) at opened)
-
-  pub shortest-count : e < 2 → n + 1 ≡ D .count
-  shortest-count g = add-one n ∙ ap (λ (x : Digits). x .count) (rw (lt-ltb e 2 g) at opened)
+  pub shortest-ends : e < 2 → (10 * q + d + e ≡ D .number) × (n + 1 ≡ D .count)
+  shortest-ends g = let ended = rw (lt-ltb e 2 g) at opened in (ap (λ (x : Digits). x .number) ended, add-one n ∙ ap (λ (x : Digits). x .count) ended)
 
 pub shortest-out : (n low odd s q r u : ℕ) (D : Digits) → n ≡ 17 → shortest (17 - n) low odd s q n r u ≡ D → (q ≡ D .number) × (n ≡ D .count)
 unfolding shortest

@@ -80,12 +80,6 @@ loop-again c =
     let more = lower-more (head .k) odd (value (head .r)) (value (head .u)) s (lowers 400 odd (value (start .args .r .now) + 2 * value (start .args .u .now)) s) (omega arith) t (head .inv .1) in
     (omega arith, rw (e, f) more, e ∙ power-more 10 (head .k) (value (head .r)) (value (start .args .r .now)) (head .inv .2), f ∙ power-more 10 (head .k) (value (head .u)) (value (start .args .u .now)) (head .inv .3), omega arith, omega arith, search needs, search needs)
 
-same-length-3 : tie.Need-same-length-3 Inv-loop μ-loop
-same-length-3 c = c .before .loop .inv .6 ∙ sym (c .before .before .before .before .before .pre .0 .1)
-
-same-length-4 : tie.Need-same-length-4 Inv-loop μ-loop
-same-length-4 c = c .before .loop .inv .7 ∙ sym (c .before .before .before .before .before .pre .0 .2)
-
 returns-2 : tie.Need-returns-2 Inv-loop μ-loop
 returns-2 c =
     let start = c .before .before .before .before .before in
@@ -97,6 +91,6 @@ lower-spec =
     tie.close
     (tie.spec Inv-loop μ-loop loop-holds (λ c κs. search needs) same-length same-length-2 returns times-requires times-requires-2 (λ c. omega arith) (λ c. omega arith)
     loop-again
-    same-length-3
-    same-length-4
+    (λ c. c .before .loop .inv .6 ∙ sym (c .before .before .before .before .before .pre .0 .1))
+    (λ c. c .before .loop .inv .7 ∙ sym (c .before .before .before .before .before .pre .0 .2))
     returns-2)

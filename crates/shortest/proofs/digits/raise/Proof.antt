@@ -59,9 +59,6 @@ loop-again c =
     let more = raise-more (head .k) odd top (value (head .s)) (raises 400 odd top (value (start .args .s .now))) (omega arith) t (head .inv .1) in
     (omega arith, rw e more, e ∙ power-more 10 (head .k) (value (head .s)) (value (start .args .s .now)) (head .inv .2), omega arith, search needs)
 
-same-length-2 : tie.Need-same-length-2 Inv-loop μ-loop
-same-length-2 c = c .before .loop .inv .4 ∙ sym (c .before .before .before .before .before .pre .0 .0)
-
 returns-2 : tie.Need-returns-2 Inv-loop μ-loop
 returns-2 c =
     let start = c .before .before .before .before .before in
@@ -71,4 +68,7 @@ returns-2 c =
 pub raise-spec : {M : Type 1} → statement M
 raise-spec =
     tie.close
-    (tie.spec Inv-loop μ-loop loop-holds (λ c κs. search needs) same-length returns times-requires (λ c. omega arith) (λ c. omega arith) loop-again same-length-2 returns-2)
+    (tie.spec Inv-loop μ-loop loop-holds (λ c κs. search needs) same-length returns times-requires (λ c. omega arith) (λ c. omega arith)
+    loop-again
+    (λ c. c .before .loop .inv .4 ∙ sym (c .before .before .before .before .before .pre .0 .0))
+    returns-2)

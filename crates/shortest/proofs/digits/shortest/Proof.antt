@@ -5,7 +5,7 @@ use native.Mathlib.Omega.{arith}
 use lib.ListN.{length}
 use Rattle.shortest.specs.Whole.{value}
 use Rattle.shortest.specs.Digits.{ending, shortest}
-use Rattle.shortest.proofs.Turns.{ending-open, digits-small, digits-fit, shortest-more, shortest-number, shortest-count, shortest-out}
+use Rattle.shortest.proofs.Turns.{ending-open, digits-small, digits-fit, shortest-more, shortest-ends, shortest-out}
 use borrow.Author.Needs.{needs}
 use Rattle.shortest.proofs.digits.shortest.Statement.{statement}
 use Rattle.shortest.proofs.digits.shortest.Tie as tie
@@ -59,37 +59,28 @@ add-t23 c =
 
 returns : tie.Need-returns Inv-loop μ-loop
 returns c =
-    let start = c .before .before .before .before .before .before .before .before .before .before .before .before .before .before .before .before .before .before .before .before .before in
+    let args = c .before .before .before .before .before .before .before .before .before .before .before .before .before .before .before .before .before .before .before .before .before .args in
     let head = c .before .before .before .before .before .before .before .before .before .before .before .before .before .before .before .before .before .loop in
-    let args = start .args in
-    let s = value (args .s .now) in
-    let whole = shortest 17 (args .low) (args .odd) s 0 0 (value (args .r .now)) (value (args .u .now)) in
-    let er = c .before .before .before .before .before .before .before .before .before .before .before .before .before .before .times .ensures in
-    let eu = c .before .before .before .before .before .before .before .before .before .before .times2 .ensures in
     let cut = c .before .before .before .before .before .before .cut .ensures in
-    let ee = c .before .ending .ensures .0 in
-    (shortest-number (head .n) (args .low) (args .odd) s (head .q) (value (head .r)) (value (head .u)) _ _ _ _ _ whole (omega arith) er eu (cut .0) (cut .1) ee (head .inv .1) (c .if1 .taken), (shortest-count (head .n) (args .low) (args .odd) s (head .q) (value (head .r)) (value (head .u)) _ _ _ _ _ whole (omega arith) er eu (cut .0) (cut .1) ee (head .inv .1) (c .if1 .taken), (omega arith, omega arith)))
+    let ends =
+    shortest-ends (head .n) (args .low) (args .odd) (value (args .s .now)) (head .q) (value (head .r)) (value (head .u)) _ _ _ _ _
+    (shortest 17 (args .low) (args .odd) (value (args .s .now)) 0 0 (value (args .r .now)) (value (args .u .now))) (omega arith) (c .before .before .before .before .before .before .before .before .before .before .before .before .before .before .times .ensures) (c .before .before .before .before .before .before .before .before .before .before .times2 .ensures) (cut .0) (cut .1)
+    (c .before .ending .ensures .0) (head .inv .1) (c .if1 .taken) in
+    (ends .0, (ends .1, (omega arith, omega arith)))
 
 loop-again : tie.Need-loop-again Inv-loop μ-loop
 loop-again c =
-    let start = c .before .before .before .before .before .before .before .before .before .before .before .before .before .before .before .before .before .before .before .before .before in
+    let args = c .before .before .before .before .before .before .before .before .before .before .before .before .before .before .before .before .before .before .before .before .before .args in
     let head = c .before .before .before .before .before .before .before .before .before .before .before .before .before .before .before .before .before .loop in
-    let args = start .args in
-    let s = value (args .s .now) in
-    let whole = shortest 17 (args .low) (args .odd) s 0 0 (value (args .r .now)) (value (args .u .now)) in
     let er = c .before .before .before .before .before .before .before .before .before .before .before .before .before .before .times .ensures in
     let eu = c .before .before .before .before .before .before .before .before .before .before .times2 .ensures in
     let cut = c .before .before .before .before .before .before .cut .ensures in
     let ee = c .before .ending .ensures .0 in
-    let more = shortest-more (head .n) (args .low) (args .odd) s (head .q) (value (head .r)) (value (head .u)) _ _ _ _ _ whole (omega arith) er eu (cut .0) (cut .1) ee (head .inv .1) (c .if1 .left) in
-    let below = ending-open (args .low) (args .odd) s _ _ (rw ee at (c .if1 .left)) in
+    let more =
+    shortest-more (head .n) (args .low) (args .odd) (value (args .s .now)) (head .q) (value (head .r)) (value (head .u)) _ _ _ _ _
+    (shortest 17 (args .low) (args .odd) (value (args .s .now)) 0 0 (value (args .r .now)) (value (args .u .now))) (omega arith) er eu (cut .0) (cut .1) ee (head .inv .1) (c .if1 .left) in
+    let below = ending-open (args .low) (args .odd) (value (args .s .now)) _ _ (rw ee at (c .if1 .left)) in
     (omega arith, more, digits-small (head .q) _ (head .n) (head .inv .2) (cut .2), omega arith, below, search needs, search needs)
-
-same-length-3 : tie.Need-same-length-3 Inv-loop μ-loop
-same-length-3 c = c .before .loop .inv .5 ∙ sym (c .before .before .before .before .before .pre .0 .1)
-
-same-length-4 : tie.Need-same-length-4 Inv-loop μ-loop
-same-length-4 c = c .before .loop .inv .6 ∙ sym (c .before .before .before .before .before .pre .0 .2)
 
 returns-2 : tie.Need-returns-2 Inv-loop μ-loop
 returns-2 c =
@@ -106,6 +97,6 @@ shortest-spec =
     (λ c. search needs)
     returns (λ c. omega arith)
     loop-again
-    same-length-3
-    same-length-4
+    (λ c. c .before .loop .inv .5 ∙ sym (c .before .before .before .before .before .pre .0 .1))
+    (λ c. c .before .loop .inv .6 ∙ sym (c .before .before .before .before .before .pre .0 .2))
     returns-2)

@@ -25,24 +25,9 @@ loop-holds : tie.Need-loop-holds Inv-loop μ-loop
 loop-holds c =
     (omega arith, omega arith, omega arith, simp add-zero)
 
-mul-x : tie.Need-mul-x Inv-loop μ-loop
-mul-x c =
-    let h = limb-product (c .before .before .before .before .before .before .before .pre .4) (c .wide .ensures .1) in
-    omega arith
-
-mul-x-2 : tie.Need-mul-x-2 Inv-loop μ-loop
-mul-x-2 c =
-    let h = limb-product (c .before .before .before .before .before .before .before .before .before .pre .5) (c .wide2 .ensures .1) in
-    omega arith
-
+-- both products fit, and so does what they add up to
 add-x : tie.Need-add-x Inv-loop μ-loop
 add-x c =
-    let h = limb-product (c .before .before .before .before .before .before .before .before .before .pre .4) (c .before .before .wide .ensures .1) in
-    let g = limb-product (c .before .before .before .before .before .before .before .before .before .pre .5) (c .wide2 .ensures .1) in
-    omega arith
-
-add-x-2 : tie.Need-add-x-2 Inv-loop μ-loop
-add-x-2 c =
     let h = limb-product (c .before .before .before .before .before .before .before .before .before .pre .4) (c .before .before .wide .ensures .1) in
     let g = limb-product (c .before .before .before .before .before .before .before .before .before .pre .5) (c .wide2 .ensures .1) in
     omega arith
@@ -68,9 +53,11 @@ returns c =
 pub at-most-spec : {M : Type 1} → statement M
 at-most-spec =
     tie.close
-    (tie.spec Inv-loop μ-loop loop-holds (λ c. omega arith) (λ c. omega arith) (λ c κs. omega arith) mul-x (λ c. omega arith) (λ c. omega arith) (λ c κs. omega arith) mul-x-2
-    add-x
-    add-x-2 (λ c. omega arith) (λ c. omega arith) (λ c. omega arith) (λ c κs. omega arith) (λ c. omega arith) (λ c. omega arith) (λ c. omega arith)
+    (tie.spec Inv-loop μ-loop loop-holds (λ c. omega arith) (λ c. omega arith) (λ c κs. omega arith)
+    (λ c. let h = limb-product (c .before .before .before .before .before .before .before .pre .4) (c .wide .ensures .1) in omega arith) (λ c. omega arith) (λ c. omega arith) (λ c κs. omega arith)
+    (λ c. let h = limb-product (c .before .before .before .before .before .before .before .before .before .pre .5) (c .wide2 .ensures .1) in omega arith) add-x
+    (λ c. let h = limb-product (c .before .before .before .before .before .before .before .before .before .pre .4) (c .before .before .wide .ensures .1) in let g = limb-product (c .before .before .before .before .before .before .before .before .before .pre .5) (c .wide2 .ensures .1) in omega arith)
+    (λ c. omega arith) (λ c. omega arith) (λ c. omega arith) (λ c κs. omega arith) (λ c. omega arith) (λ c. omega arith) (λ c. omega arith)
     (λ c. omega arith) (λ c. omega arith)
     loop-again
     returns)
