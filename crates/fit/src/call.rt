@@ -1,166 +1,129 @@
-// A call, as its words have it.
-use crate::event::Awaits;
+// A call, read from its words and made. A word that is missing is 0: the script is cut then, and the call counts as bad.
 use crate::script;
 use crate::script::Beginning;
+use crate::script::Got;
 use crate::script::Script;
+use crate::session;
+use crate::session::Answer;
+use crate::session::Change;
+use crate::session::Session;
+use crate::sr1_session;
+use crate::standing;
+use crate::standing::Standing;
+use crate::trust_region;
 
-// Each tells its own n. New derivatives, or the gradient that comes with a cost, stand in the list that they were read
-// to.
-pub(crate) enum Call {
-    Propose(usize),
-    Cost(usize, f64),
-    Derivatives(usize),
-    Put(f64, f64, Awaits),
-    End,
-    Bad,
-}
-
-pub(crate) struct Reading {
-    pub(crate) call: Call,
-    pub(crate) script: Script,
-}
-
-// The next call of a session, of which `gradient` numbers come with a cost: none but for SR1TrustRegion.
-pub(crate) fn read(
-    room: &mut [u8],
-    script: Script,
-    answer: &mut [f64],
-    gradient: usize,
-) -> Reading {
-    let first = script::first(room, script);
+// The next call of a session of size n, or the end of the script; after its last event nothing.
+pub(crate) fn next(room: &mut [u8], n: usize, before: Standing, hessian: &mut [f64]) -> Standing {
+    if session::is_last(before.came) {
+        return before;
+    }
+    let first = script::first(room, before.script);
     match first {
-        Beginning::Is(number, next) => {
-            if gradient == 0 {
-                return trust_region(room, number, next, answer);
+        Beginning::Is(number, rest) => {
+            let at = standing::inside(before, rest);
+            match number {
+                1 => propose(room, n, at, hessian),
+                2 => cost(room, n, at, hessian),
+                3 => derivatives(room, n, at, hessian),
+                4 => put(room, at),
+                _ => at,
             }
-            sr1(room, number, next, answer, gradient)
         }
-        Beginning::End(end) => Reading {
-            call: Call::End,
-            script: end,
-        },
-        Beginning::Short(end) => Reading {
-            call: Call::Bad,
-            script: end,
-        },
-    }
-}
-
-fn trust_region(room: &mut [u8], number: u64, script: Script, answer: &mut [f64]) -> Reading {
-    match number {
-        1 => propose(room, script),
-        2 => cost(room, script),
-        3 => derivatives(room, script, answer),
-        4 => put(room, script),
-        _ => bad(script),
-    }
-}
-
-fn sr1(
-    room: &mut [u8],
-    number: u64,
-    script: Script,
-    answer: &mut [f64],
-    gradient: usize,
-) -> Reading {
-    match number {
-        1 => propose(room, script),
-        2 => cost_and_gradient(room, script, answer, gradient),
-        4 => without_derivatives(put(room, script)),
-        _ => bad(script),
-    }
-}
-
-fn bad(script: Script) -> Reading {
-    Reading {
-        call: Call::Bad,
-        script,
+        Beginning::End(rest) => {
+            let end = session::ended(before.came);
+            standing::told(end, before.lists, rest)
+        }
     }
 }
 
 // 1 n
-fn propose(room: &mut [u8], script: Script) -> Reading {
-    let n = script::word(room, script);
-    let told = n.word as usize;
-    unless_cut(Call::Propose(told), n.script)
+fn propose(room: &mut [u8], n: usize, at: Standing, hessian: &[f64]) -> Standing {
+    let told_n = script::word(room, at.script);
+    proposed(n, at, told_n, hessian)
 }
 
-// 2 n F
-fn cost(room: &mut [u8], script: Script) -> Reading {
-    let n = script::word(room, script);
-    let cost = script::number(room, n.script);
-    let told = n.word as usize;
-    unless_cut(Call::Cost(told, cost.number), cost.script)
+fn proposed(n: usize, at: Standing, told_n: Got, hessian: &[f64]) -> Standing {
+    let came = at.came;
+    let session = came.session;
+    let mut lists = at.lists;
+    let point = standing::point(lists);
+    let gradient = standing::gradient(lists);
+    let mut step = standing::step(lists);
+    let mut trial = standing::trial(lists);
+    let mut scratch = [0.0; 8704];
+    let work = standing::scratch(n);
+    let after = session::propose(
+        session,
+        told_n.word as usize,
+        standing::front(&point, n),
+        standing::front_mut(&mut step, n),
+        standing::front_mut(&mut trial, n),
+        standing::front(&gradient, n),
+        hessian,
+        standing::front_mut(&mut scratch, work),
+    );
+    lists.step = step;
+    lists.trial = trial;
+    standing::told(after, lists, told_n.script)
 }
 
-// 2 n F G; G at the front of the answer
-fn cost_and_gradient(
-    room: &mut [u8],
-    script: Script,
-    answer: &mut [f64],
-    gradient: usize,
-) -> Reading {
-    let n = script::word(room, script);
-    let cost = script::number(room, n.script);
-    let told = n.word as usize;
-    if answer.len() < gradient {
-        return bad(cost.script);
-    }
-    let end = script::numbers(room, cost.script, &mut answer[0..gradient]);
-    unless_cut(Call::Cost(told, cost.number), end)
+// 2 n F, for SR1TrustRegion 2 n F G
+fn cost(room: &mut [u8], n: usize, at: Standing, hessian: &mut [f64]) -> Standing {
+    let mut gradient = [0.0; 64];
+    let came = at.came;
+    let count = session::gradient(came, n);
+    let answer = answer(room, at.script, standing::front_mut(&mut gradient, count));
+    judged(n, at, answer, gradient, hessian)
 }
 
-// 3 n g H
-fn derivatives(room: &mut [u8], script: Script, answer: &mut [f64]) -> Reading {
-    let n = script::word(room, script);
-    let end = script::numbers(room, n.script, answer);
-    let told = n.word as usize;
-    unless_cut(Call::Derivatives(told), end)
-}
-
-// 4 radius cost phase a b
-fn put(room: &mut [u8], script: Script) -> Reading {
-    let mut kept = [0.0; 2];
-    let mut promised = [0.0; 2];
-    let first = script::numbers(room, script, &mut kept);
-    let phase = script::word(room, first);
-    let end = script::numbers(room, phase.script, &mut promised);
-    unless_cut(
-        put_call(kept[0], kept[1], phase.word, promised[0], promised[1]),
-        end,
-    )
-}
-
-fn put_call(radius: f64, cost: f64, phase: u64, a: f64, b: f64) -> Call {
-    match phase {
-        0 => Call::Put(radius, cost, Awaits::Proposal),
-        1 => Call::Put(radius, cost, Awaits::Cost(a, b)),
-        2 => Call::Put(radius, cost, Awaits::Derivatives),
-        _ => Call::Bad,
+// What a trial is answered: for which n, its cost, and the words behind the gradient.
+fn answer(room: &mut [u8], script: Script, gradient: &mut [f64]) -> Answer {
+    let told_n = script::word(room, script);
+    let cost = script::number(room, told_n.script);
+    let script = script::numbers(room, cost.script, gradient);
+    Answer {
+        told_n: told_n.word as usize,
+        cost: cost.number,
+        script,
     }
 }
 
-// No session of SR1TrustRegion awaits derivatives.
-fn without_derivatives(reading: Reading) -> Reading {
-    let script = reading.script;
-    let call = reading.call;
-    match call {
-        Call::Put(radius, cost, awaits) => match awaits {
-            Awaits::Proposal => reading,
-            Awaits::Cost(_, _) => reading,
-            Awaits::Derivatives => bad(script),
-        },
-        _ => reading,
+fn judged(
+    n: usize,
+    before: Standing,
+    answer: Answer,
+    gradient: [f64; 64],
+    hessian: &mut [f64],
+) -> Standing {
+    let came = before.came;
+    let session = came.session;
+    match session {
+        Session::TrustRegion(s) => trust_region::judge(s, answer, n, before.lists),
+        Session::Sr1(s) => sr1_session::judge(s, answer, gradient, n, before.lists, hessian),
     }
 }
 
-// A call whose words were there.
-fn unless_cut(call: Call, script: Script) -> Reading {
-    if script.cut {
-        return Reading {
-            call: Call::Bad,
-            script,
-        };
+// 3 n g H, for TrustRegion alone
+fn derivatives(room: &mut [u8], n: usize, at: Standing, hessian: &mut [f64]) -> Standing {
+    let came = at.came;
+    let session = came.session;
+    match session {
+        Session::TrustRegion(s) => trust_region::renew(room, s, n, at, hessian),
+        Session::Sr1(_) => at,
     }
-    Reading { call, script }
+}
+
+// 4 radius cost phase a b. The phase is read as a number too, and its bits tell it: no phase has those of a NaN.
+fn put(room: &mut [u8], at: Standing) -> Standing {
+    let mut words = [0.0; 5];
+    let rest = script::numbers(room, at.script, &mut words);
+    let to = Change {
+        radius: words[0],
+        cost: words[1],
+        phase: float::bits_of(words[2]),
+        a: words[3],
+        b: words[4],
+    };
+    let after = session::changed(at.came, to);
+    standing::told(after, at.lists, rest)
 }

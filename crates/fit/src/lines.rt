@@ -1,48 +1,41 @@
 // What happened, as lines of words: numbers by their 16 hexadecimal digits, whole numbers in decimal.
 use crate::event::Awaits;
 use crate::event::Event;
-use crate::event::Judged;
-use crate::session::Begun;
+use crate::standing;
+use crate::standing::Lists;
 use stream::Output;
 use vectors::refusal::Refusal;
-
-pub(crate) fn begun(page: &mut [u8], output: Output, begun: Begun) -> Output {
-    match begun {
-        Begun::Bad => bad(page, output),
-        Begun::Refused(r) => refused(page, output, r),
-        Begun::Started(_) => stream::put_text(page, output, b"start\n"),
-    }
-}
 
 pub(crate) fn event(
     page: &mut [u8],
     output: Output,
     event: Event,
-    point: &[f64],
-    gradient: &[f64],
+    n: usize,
+    lists: Lists,
     hessian: &[f64],
-    step: &[f64],
-    trial: &[f64],
 ) -> Output {
     match event {
+        Event::NotStarted(r) => refused(page, output, r),
         Event::Refused(r) => refused(page, output, r),
-        Event::Done => stream::put_text(page, output, b"done\n"),
-        Event::Proposed(passes) => proposed(page, output, passes, step, trial),
-        Event::Accepted(judged) => verdict(page, output, b"accepted ", judged),
-        Event::Rejected(judged) => verdict(page, output, b"rejected ", judged),
-        Event::Taken => stream::put_text(page, output, b"taken\n"),
-        Event::Changed => output,
+        Event::Proposed(passes) => proposed(page, output, passes, n, lists),
+        Event::Judged(accepted, _, ratio, radius) => judged(page, output, accepted, ratio, radius),
         Event::Ended(radius, cost, awaits) => {
-            let phase = end(page, output, awaits);
-            let numbers = kept(page, phase, radius, cost);
-            lists(page, numbers, point, gradient, hessian)
+            let kept = end(page, output, awaits, radius, cost);
+            ended(page, kept, n, lists, hessian)
         }
-        Event::Bad => bad(page, output),
+        _ => plain(page, output, event),
     }
 }
 
-pub(crate) fn bad(page: &mut [u8], output: Output) -> Output {
-    stream::put_text(page, output, b"bad input\n")
+// An event of which there is nothing more to tell.
+fn plain(page: &mut [u8], output: Output, event: Event) -> Output {
+    match event {
+        Event::Started(_, _) => stream::put_text(page, output, b"start\n"),
+        Event::Done => stream::put_text(page, output, b"done\n"),
+        Event::Taken => stream::put_text(page, output, b"taken\n"),
+        Event::Bad => stream::put_text(page, output, b"bad input\n"),
+        _ => output,
+    }
 }
 
 fn refused(page: &mut [u8], output: Output, r: Refusal) -> Output {
@@ -51,59 +44,60 @@ fn refused(page: &mut [u8], output: Output, r: Refusal) -> Output {
     stream::put_line_end(page, put)
 }
 
-fn proposed(page: &mut [u8], output: Output, passes: u64, step: &[f64], trial: &[f64]) -> Output {
+fn proposed(page: &mut [u8], output: Output, passes: u64, n: usize, lists: Lists) -> Output {
+    let step = standing::step(lists);
+    let trial = standing::trial(lists);
     let said = stream::put_text(page, output, b"proposed ");
     let put = stream::put_whole(page, said, passes);
-    let head = stream::put_line_end(page, put);
-    let first = numbers(page, head, b"step", step);
-    numbers(page, first, b"trial", trial)
-}
-
-fn verdict(page: &mut [u8], output: Output, word: &[u8], judged: Judged) -> Output {
-    let ratio = judged.ratio;
-    let radius = judged.radius;
-    let said = stream::put_text(page, output, word);
-    let first = stream::put_number(page, said, ratio);
-    let between = stream::put_text(page, first, b" radius ");
-    let second = stream::put_number(page, between, radius);
+    let first = numbers(page, put, b"\nstep", standing::front(&step, n));
+    let second = numbers(page, first, b"\ntrial", standing::front(&trial, n));
     stream::put_line_end(page, second)
 }
 
-fn end(page: &mut [u8], output: Output, awaits: Awaits) -> Output {
+fn judged(page: &mut [u8], output: Output, accepted: bool, ratio: f64, radius: f64) -> Output {
+    let word = verdict(accepted);
+    let first = number(page, output, &word, ratio);
+    let second = number(page, first, b" radius ", radius);
+    stream::put_line_end(page, second)
+}
+
+fn verdict(accepted: bool) -> [u8; 9] {
+    if accepted {
+        return *b"accepted ";
+    }
+    *b"rejected "
+}
+
+fn end(page: &mut [u8], output: Output, awaits: Awaits, radius: f64, cost: f64) -> Output {
+    let phase = phase(page, output, awaits);
+    let first = number(page, phase, b"\nradius ", radius);
+    number(page, first, b"\ncost ", cost)
+}
+
+fn phase(page: &mut [u8], output: Output, awaits: Awaits) -> Output {
     match awaits {
-        Awaits::Proposal => stream::put_text(page, output, b"end ready\n"),
+        Awaits::Proposal => stream::put_text(page, output, b"end ready"),
         Awaits::Cost(a, b) => {
-            let said = stream::put_text(page, output, b"end cost ");
-            let first = stream::put_number(page, said, a);
-            let between = stream::put_blank(page, first);
-            let second = stream::put_number(page, between, b);
-            stream::put_line_end(page, second)
+            let first = number(page, output, b"end cost ", a);
+            number(page, first, b" ", b)
         }
-        Awaits::Derivatives => stream::put_text(page, output, b"end derivatives\n"),
+        Awaits::Derivatives => stream::put_text(page, output, b"end derivatives"),
     }
 }
 
-fn kept(page: &mut [u8], output: Output, radius: f64, cost: f64) -> Output {
-    let first = number(page, output, b"radius ", radius);
-    number(page, first, b"cost ", cost)
+fn ended(page: &mut [u8], output: Output, n: usize, lists: Lists, hessian: &[f64]) -> Output {
+    let point = standing::point(lists);
+    let gradient = standing::gradient(lists);
+    let first = numbers(page, output, b"\npoint", standing::front(&point, n));
+    let second = numbers(page, first, b"\ngradient", standing::front(&gradient, n));
+    let third = numbers(page, second, b"\nhessian", hessian);
+    stream::put_line_end(page, third)
 }
 
+// A number behind its name.
 fn number(page: &mut [u8], output: Output, name: &[u8], x: f64) -> Output {
     let said = stream::put_text(page, output, name);
-    let put = stream::put_number(page, said, x);
-    stream::put_line_end(page, put)
-}
-
-fn lists(
-    page: &mut [u8],
-    output: Output,
-    point: &[f64],
-    gradient: &[f64],
-    hessian: &[f64],
-) -> Output {
-    let first = numbers(page, output, b"point", point);
-    let second = numbers(page, first, b"gradient", gradient);
-    numbers(page, second, b"hessian", hessian)
+    stream::put_number(page, said, x)
 }
 
 // A name and the numbers of a list.
@@ -115,5 +109,5 @@ fn numbers(page: &mut [u8], output: Output, name: &[u8], v: &[f64]) -> Output {
         put = stream::put_number(page, blank, v[i]);
         i += 1;
     }
-    stream::put_line_end(page, put)
+    put
 }

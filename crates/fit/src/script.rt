@@ -5,7 +5,7 @@ ghost use mathlib.Core.Path.{_≡_};
 ghost use mathlib.Core.Bool.{false};
 ghost use Prim.Native.Nat.{_-_, _≤_};
 
-// How many words it may still have, and whether more were asked for than there were.
+// How many words it may still have, and whether it is cut: more were asked for than there were, or one may not stand there.
 pub struct Script {
     pub input: Input,
     pub left: u64,
@@ -23,11 +23,10 @@ pub(crate) struct GotNumber {
     pub(crate) script: Script,
 }
 
-// What comes where a call may begin: a word; the script's end; or bytes that make no word.
+// What comes where a call may begin: a word, or the script's end. Bytes that make no word are an end that is cut.
 pub(crate) enum Beginning {
     Is(u64, Script),
     End(Script),
-    Short(Script),
 }
 
 // A script of so many words.
@@ -59,6 +58,19 @@ fn over(cut: bool) -> Script
     }
 }
 
+// A script is cut at a word that may not stand there.
+pub(crate) fn cut_unless(script: Script, known: bool) -> Script {
+    if known {
+        return script;
+    }
+    let input = script.input;
+    Script {
+        input,
+        left: script.left,
+        cut: true,
+    }
+}
+
 pub(crate) fn first(room: &mut [u8], script: Script) -> Beginning {
     let input = script.input;
     let left = script.left;
@@ -69,7 +81,7 @@ pub(crate) fn first(room: &mut [u8], script: Script) -> Beginning {
     match word {
         Word::Is(x, next) => Beginning::Is(x, of(next, left - 1)),
         Word::End => Beginning::End(over(false)),
-        Word::Short => Beginning::Short(over(true)),
+        Word::Short => Beginning::End(over(true)),
     }
 }
 

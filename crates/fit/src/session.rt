@@ -1,109 +1,127 @@
-// The calls of both kinds of session, by value, and what happened in each.
-use crate::call::Call;
+// The calls that both kinds of session have, and what happened in each.
 use crate::event::Event;
+use crate::script::Script;
 use crate::sr1_session;
 use crate::trust_region;
-use vectors::refusal::Refusal;
-
-// The settings that a session starts with.
-pub(crate) enum Kind {
-    TrustRegion(trustregion::settings::Settings),
-    Sr1(sr1::settings::Settings),
-}
 
 pub(crate) enum Session {
     TrustRegion(trustregion::session::Session),
     Sr1(sr1::session::Session),
 }
 
-pub(crate) enum Begun {
-    Bad,
-    Refused(Refusal),
-    Started(Session),
-}
-
-pub(crate) struct Made {
+// A session after a call, and what the call came to.
+pub(crate) struct After {
     pub(crate) session: Session,
     pub(crate) event: Event,
 }
 
-// A start whose words were not all there is bad, whatever the others say.
-pub(crate) fn begin(kind: Kind, cost: f64, cut: bool) -> Begun {
-    if cut {
-        return Begun::Bad;
-    }
-    match kind {
-        Kind::TrustRegion(settings) => trust_region::begin(settings, cost),
-        Kind::Sr1(settings) => sr1_session::begin(settings, cost),
+// The answer to a trial: the n that it is told for, its cost, and the words that are left.
+pub(crate) struct Answer {
+    pub(crate) told_n: usize,
+    pub(crate) cost: f64,
+    pub(crate) script: Script,
+}
+
+// What a session is changed to by hand: the phase by its number, and the two numbers of a promise.
+pub(crate) struct Change {
+    pub(crate) radius: f64,
+    pub(crate) cost: f64,
+    pub(crate) phase: u64,
+    pub(crate) a: f64,
+    pub(crate) b: f64,
+}
+
+pub(crate) fn propose(
+    session: Session,
+    n: usize,
+    point: &[f64],
+    step: &mut [f64],
+    trial: &mut [f64],
+    gradient: &[f64],
+    hessian: &[f64],
+    scratch: &mut [f64],
+) -> After {
+    match session {
+        Session::TrustRegion(s) => {
+            let after = trustregion::trustregion_method::proposed(
+                s,
+                n,
+                point,
+                gradient,
+                hessian,
+                step,
+                trial,
+                scratch,
+            );
+            trust_region::told(after, 0.0)
+        }
+        Session::Sr1(s) => {
+            let after = sr1::sr1_trustregion::proposed(
+                s,
+                n,
+                point,
+                gradient,
+                hessian,
+                step,
+                trial,
+                scratch,
+            );
+            sr1_session::told(after, 0.0)
+        }
     }
 }
 
 // How many numbers come with a cost, in a session of size n.
-pub(crate) fn gradient(session: Session, n: usize) -> usize {
+pub(crate) fn gradient(before: After, n: usize) -> usize {
+    let session = before.session;
     match session {
         Session::TrustRegion(_) => 0,
         Session::Sr1(_) => n,
     }
 }
 
-pub(crate) fn cost(session: Session) -> f64 {
+// As a caller can change what is its own.
+pub(crate) fn changed(before: After, to: Change) -> After {
+    let session = before.session;
     match session {
-        Session::TrustRegion(s) => s.cost,
-        Session::Sr1(s) => s.cost,
+        Session::TrustRegion(s) => trust_region::changed(s, to),
+        Session::Sr1(s) => sr1_session::changed(s, to),
     }
 }
 
-pub(crate) fn radius(session: Session) -> f64 {
-    match session {
-        Session::TrustRegion(s) => s.radius,
-        Session::Sr1(s) => s.radius,
+// A change is none where its kind of session has no phase of that number.
+pub(crate) fn event_of(to: Change, last: u64) -> Event {
+    if last < to.phase {
+        return Event::Bad;
+    }
+    Event::Changed
+}
+
+pub(crate) fn ended(before: After) -> After {
+    let session = before.session;
+    let event = match session {
+        Session::TrustRegion(s) => trust_region::ended(s),
+        Session::Sr1(s) => sr1_session::ended(s),
+    };
+    After { session, event }
+}
+
+// Whether nothing follows.
+pub(crate) fn is_last(came: After) -> bool {
+    let event = came.event;
+    match event {
+        Event::NotStarted(_) => true,
+        Event::Ended(_, _, _) => true,
+        Event::Bad => true,
+        _ => false,
     }
 }
 
-pub(crate) fn make(
-    session: Session,
-    call: Call,
-    answer: &[f64],
-    point: &mut [f64],
-    gradient: &mut [f64],
-    hessian: &mut [f64],
-    step: &mut [f64],
-    trial: &mut [f64],
-    scratch: &mut [f64],
-) -> Made {
-    match session {
-        Session::TrustRegion(s) => {
-            trust_region::make(
-                s,
-                call,
-                answer,
-                point,
-                gradient,
-                hessian,
-                step,
-                trial,
-                scratch,
-            )
-        }
-        Session::Sr1(s) => {
-            sr1_session::make(
-                s,
-                call,
-                answer,
-                point,
-                gradient,
-                hessian,
-                step,
-                trial,
-                scratch,
-            )
-        }
+// How many trials were answered, where so many were before the call.
+pub(crate) fn trials(before: u64, came: After) -> u64 {
+    let event = came.event;
+    match event {
+        Event::Judged(_, _, _, _) => std::num::wrapping_add_u64(before, 1),
+        _ => before,
     }
-}
-
-pub(crate) fn front(v: &[f64], n: usize) -> &[f64] {
-    if n <= v.len() {
-        return &v[0..n];
-    }
-    v
 }

@@ -1,12 +1,14 @@
-// The calls of an SR1TrustRegion session, and what happened in each.
-use crate::call::Call;
+// An SR1TrustRegion session's own calls, and what happened in each.
 use crate::event::Awaits;
 use crate::event::Event;
-use crate::event::Judged;
 use crate::session;
-use crate::session::Begun;
-use crate::session::Made;
+use crate::session::After as Happened;
+use crate::session::Answer;
+use crate::session::Change;
 use crate::session::Session as Kinds;
+use crate::standing;
+use crate::standing::Lists;
+use crate::standing::Standing;
 use sr1::session::After;
 use sr1::session::Outcome;
 use sr1::session::Phase;
@@ -15,117 +17,109 @@ use sr1::session::Start;
 use sr1::settings::Settings;
 use sr1::sr1_trustregion;
 
-pub(crate) fn begin(settings: Settings, cost: f64) -> Begun {
+// The numbers are radius, eta, factor, tol_grad and epsilon. Where a start is refused, no call is made of what stands for it.
+pub(crate) fn begin(kernel: u64, numbers: [f64; 5], limit: u64, cost: f64) -> Happened {
+    let settings = Settings {
+        kernel,
+        radius: numbers[0],
+        eta: numbers[1],
+        factor: numbers[2],
+        tol_grad: numbers[3],
+        epsilon: numbers[4],
+        limit,
+    };
     let start = sr1_trustregion::start(settings, cost);
     match start {
-        Start::Refused(r) => Begun::Refused(r),
-        Start::Started(s) => Begun::Started(Kinds::Sr1(s)),
+        Start::Refused(r) => {
+            let radius = numbers[0];
+            let none = Session {
+                settings,
+                radius,
+                cost,
+                phase: Phase::Ready,
+            };
+            happened(none, Event::NotStarted(r))
+        }
+        Start::Started(s) => happened(s, Event::Started(cost, s.radius)),
     }
 }
 
-fn made(session: Session, event: Event) -> Made {
-    Made {
+fn happened(session: Session, event: Event) -> Happened {
+    Happened {
         session: Kinds::Sr1(session),
         event,
     }
 }
 
-pub(crate) fn make(
+// The answer to a trial, with the gradient there.
+pub(crate) fn judge(
     session: Session,
-    call: Call,
-    answer: &[f64],
-    point: &mut [f64],
-    gradient: &mut [f64],
+    answer: Answer,
+    new_gradient: [f64; 64],
+    n: usize,
+    before: Lists,
     hessian: &mut [f64],
-    step: &mut [f64],
-    trial: &mut [f64],
-    scratch: &mut [f64],
-) -> Made {
-    match call {
-        Call::Propose(n) => {
-            let after = sr1_trustregion::proposed(
-                session,
-                n,
-                point,
-                gradient,
-                hessian,
-                step,
-                trial,
-                scratch,
-            );
-            told(after, 0.0)
-        }
-        Call::Cost(n, cost) => {
-            let after = sr1_trustregion::judged(
-                session,
-                n,
-                cost,
-                session::front(answer, gradient.len()),
-                point,
-                step,
-                trial,
-                gradient,
-                hessian,
-                scratch,
-            );
-            told(after, cost)
-        }
-        Call::Derivatives(_) => made(session, Event::Bad),
-        Call::Put(radius, cost, awaits) => changed(session, radius, cost, awaits),
-        Call::End => ended(session),
-        Call::Bad => made(session, Event::Bad),
-    }
+) -> Standing {
+    let mut point = standing::point(before);
+    let mut gradient = standing::gradient(before);
+    let step = standing::step(before);
+    let trial = standing::trial(before);
+    let mut scratch = [0.0; 8704];
+    let work = standing::scratch(n);
+    let after = sr1_trustregion::judged(
+        session,
+        answer.told_n,
+        answer.cost,
+        standing::front(&new_gradient, n),
+        standing::front_mut(&mut point, n),
+        standing::front(&step, n),
+        standing::front(&trial, n),
+        standing::front_mut(&mut gradient, n),
+        hessian,
+        standing::front_mut(&mut scratch, work),
+    );
+    let mut lists = before;
+    lists.point = point;
+    lists.gradient = gradient;
+    standing::told(told(after, answer.cost), lists, answer.script)
 }
 
 // What a call came to; `cost` is that of the trial.
-fn told(after: After, cost: f64) -> Made {
+pub(crate) fn told(after: After, cost: f64) -> Happened {
     let session = after.session;
     let outcome = after.outcome;
     let radius = session.radius;
     let event = match outcome {
         Outcome::Refused(r) => Event::Refused(r),
-        Outcome::Proposed(passes) => Event::Proposed(passes),
-        Outcome::Accepted(ratio) => Event::Accepted(Judged {
-            cost,
-            ratio,
-            radius,
-        }),
-        Outcome::Rejected(ratio) => Event::Rejected(Judged {
-            cost,
-            ratio,
-            radius,
-        }),
         Outcome::Done => Event::Done,
+        Outcome::Proposed(passes) => Event::Proposed(passes),
+        Outcome::Accepted(ratio) => Event::Judged(true, cost, ratio, radius),
+        Outcome::Rejected(ratio) => Event::Judged(false, cost, ratio, radius),
     };
-    made(session, event)
+    happened(session, event)
 }
 
-// As a caller can change what is its own.
-fn changed(session: Session, radius: f64, cost: f64, awaits: Awaits) -> Made {
-    let settings = session.settings;
-    let phase = match awaits {
-        Awaits::Proposal => Phase::Ready,
-        Awaits::Cost(model, norm) => Phase::AwaitingCost(model, norm),
-        Awaits::Derivatives => Phase::Ready,
-    };
-    made(
-        Session {
-            settings,
-            radius,
-            cost,
-            phase,
-        },
-        Event::Changed,
-    )
-}
-
-fn ended(session: Session) -> Made {
-    let radius = session.radius;
-    let cost = session.cost;
+pub(crate) fn ended(session: Session) -> Event {
     let phase = session.phase;
     let awaits = match phase {
         Phase::Ready => Awaits::Proposal,
-        Phase::AwaitingCost(model, norm) => Awaits::Cost(model, norm),
+        Phase::AwaitingCost(fall, norm) => Awaits::Cost(fall, norm),
     };
-    made(session, Event::Ended(radius, cost, awaits))
+    Event::Ended(session.radius, session.cost, awaits)
+}
+
+pub(crate) fn changed(session: Session, to: Change) -> Happened {
+    let settings = session.settings;
+    let number = to.phase;
+    let phase = match number {
+        0 => Phase::Ready,
+        _ => Phase::AwaitingCost(to.a, to.b),
+    };
+    let changed = Session {
+        settings,
+        radius: to.radius,
+        cost: to.cost,
+        phase,
+    };
+    happened(changed, session::event_of(to, 1))
 }

@@ -2,116 +2,121 @@
 // shortest that read back as the same f64. `count` trials were answered before.
 use crate::event::Awaits;
 use crate::event::Event;
-use crate::event::Judged;
-use crate::session;
-use crate::session::Begun;
-use crate::session::Session;
+use crate::standing;
+use crate::standing::Lists;
 use stream::Output;
 use vectors::refusal::Refusal;
-
-pub(crate) fn begun(page: &mut [u8], output: Output, begun: Begun) -> Output {
-    match begun {
-        Begun::Bad => bad(page, output),
-        Begun::Refused(r) => {
-            let said = stream::put_text(page, output, b"The start is ");
-            refused(page, said, r)
-        }
-        Begun::Started(s) => started(page, output, s),
-    }
-}
-
-fn started(page: &mut [u8], output: Output, s: Session) -> Output {
-    let cost = session::cost(s);
-    let radius = session::radius(s);
-    let said = stream::put_text(page, output, b"Start at cost ");
-    let told = number(page, said, cost);
-    let between = stream::put_text(page, told, b", radius ");
-    let kept = number(page, between, radius);
-    let ended = stream::put_text(page, kept, b".\n\n");
-    stream::put_text(
-        page,
-        ended,
-        b"trial  cost                    ratio                   verdict   radius\n",
-    )
-}
+ghost use Prim.Native.Nat.{_≤_};
 
 pub(crate) fn event(
     page: &mut [u8],
     output: Output,
     count: u64,
     event: Event,
-    point: &[f64],
+    n: usize,
+    lists: Lists,
 ) -> Output {
     match event {
-        Event::Refused(r) => {
-            let said = stream::put_text(page, output, b"       a call is ");
-            refused(page, said, r)
+        Event::Started(cost, radius) => started(page, output, cost, radius),
+        Event::NotStarted(r) => refused(page, output, b"The start is refused (", r),
+        Event::Refused(r) => refused(page, output, b"       a call is refused (", r),
+        Event::Judged(accepted, cost, ratio, radius) => {
+            let told = trial(page, output, count, cost, ratio);
+            verdict(page, told, accepted, cost, radius)
         }
+        Event::Ended(radius, cost, awaits) => {
+            let told = end(page, output, cost, radius, awaits);
+            ended(page, told, n, lists)
+        }
+        _ => plain(page, output, event),
+    }
+}
+
+// An event of which there is nothing more to tell; of a proposal and of new derivatives nothing at all.
+fn plain(page: &mut [u8], output: Output, event: Event) -> Output {
+    match event {
         Event::Done => stream::put_text(
             page,
             output,
             b"       the gradient is below the tolerance: done\n",
         ),
-        Event::Proposed(_) => output,
-        Event::Accepted(judged) => verdict(page, output, count, b"accepted  ", judged),
-        Event::Rejected(judged) => rejected(page, output, count, judged),
-        Event::Taken => output,
         Event::Changed => stream::put_text(
             page,
             output,
             b"       the session is changed by hand\n",
         ),
-        Event::Ended(radius, cost, awaits) => {
-            let told = kept(page, output, radius, cost);
-            let phase = waiting(page, told, awaits);
-            numbers(page, phase, point)
-        }
-        Event::Bad => bad(page, output),
+        Event::Bad => stream::put_text(
+            page,
+            output,
+            b"The input is bad: it ends inside a call, or a word of it is none that may stand there.\n",
+        ),
+        _ => output,
     }
 }
 
-// A rejected trial, marked where its cost was a NaN: a marker was hidden.
-fn rejected(page: &mut [u8], output: Output, count: u64, judged: Judged) -> Output {
-    let cost = judged.cost;
-    if float::is_nan(cost) {
-        return verdict(page, output, count, b"hidden    ", judged);
-    }
-    verdict(page, output, count, b"rejected  ", judged)
+fn started(page: &mut [u8], output: Output, cost: f64, radius: f64) -> Output {
+    let told = kept(page, output, b"Start at cost ", cost, radius);
+    stream::put_text(
+        page,
+        told,
+        b".\n\ntrial  cost                    ratio                   verdict   radius\n",
+    )
 }
 
-fn verdict(page: &mut [u8], output: Output, count: u64, word: &[u8], judged: Judged) -> Output {
-    let cost = judged.cost;
-    let ratio = judged.ratio;
-    let radius = judged.radius;
+// The cost and the radius, behind a text.
+fn kept(page: &mut [u8], output: Output, text: &[u8], cost: f64, radius: f64) -> Output {
+    let told = number(page, output, text, cost);
+    number(page, told, b", radius ", radius)
+}
+
+fn trial(page: &mut [u8], output: Output, count: u64, cost: f64, ratio: f64) -> Output {
     let counted = numbered(page, output, std::num::wrapping_add_u64(count, 1));
     let first = column(page, counted, cost);
-    let second = column(page, first, ratio);
-    let said = stream::put_text(page, second, word);
-    let last = number(page, said, radius);
-    stream::put_line_end(page, last)
+    column(page, first, ratio)
+}
+
+// The verdict and the radius after it. Where a rejected trial's cost was a NaN, a marker was hidden.
+fn verdict(page: &mut [u8], output: Output, accepted: bool, cost: f64, radius: f64) -> Output {
+    let word = word(accepted, float::is_nan(cost));
+    let told = number(page, output, &word, radius);
+    stream::put_line_end(page, told)
+}
+
+fn word(accepted: bool, hidden: bool) -> [u8; 10] {
+    if accepted {
+        return *b"accepted  ";
+    }
+    if hidden {
+        return *b"hidden    ";
+    }
+    *b"rejected  "
 }
 
 // The number of a trial, to the right of five places, and two blanks.
 fn numbered(page: &mut [u8], output: Output, row: u64) -> Output {
-    let margin = indent(page, output, row);
-    let counted = stream::put_whole(page, margin, row);
+    let blanks = [32u8; 4];
+    let count = margin(row);
+    let before = stream::put_text(page, output, &blanks[0..count]);
+    let counted = stream::put_whole(page, before, row);
     stream::put_text(page, counted, b"  ")
 }
 
-fn indent(page: &mut [u8], output: Output, row: u64) -> Output {
+fn margin(row: u64) -> usize
+    ensures { λ r. ⌜ r ≤ 4 ⌝ }
+{
     if row < 10 {
-        return stream::put_text(page, output, b"    ");
+        return 4;
     }
     if row < 100 {
-        return stream::put_text(page, output, b"   ");
+        return 3;
     }
     if row < 1000 {
-        return stream::put_text(page, output, b"  ");
+        return 2;
     }
     if row < 10000 {
-        return stream::put_text(page, output, b" ");
+        return 1;
     }
-    output
+    0
 }
 
 // A number with blanks behind it, 24 places wide: no number takes more.
@@ -121,14 +126,16 @@ fn column(page: &mut [u8], output: Output, x: f64) -> Output {
     stream::put_text(page, output, &text)
 }
 
-fn number(page: &mut [u8], output: Output, x: f64) -> Output {
-    let mut text = [0u8; 24];
-    let n = decimal::write(x, &mut text);
-    stream::put_text(page, output, &text[0..n])
+// A number behind a text.
+fn number(page: &mut [u8], output: Output, text: &[u8], x: f64) -> Output {
+    let said = stream::put_text(page, output, text);
+    let mut digits = [0u8; 24];
+    let n = decimal::write(x, &mut digits);
+    stream::put_text(page, said, &digits[0..n])
 }
 
-fn refused(page: &mut [u8], output: Output, r: Refusal) -> Output {
-    let said = stream::put_text(page, output, b"refused (");
+fn refused(page: &mut [u8], output: Output, text: &[u8], r: Refusal) -> Output {
+    let said = stream::put_text(page, output, text);
     let put = stream::put_whole(page, said, vectors::refusal::number(r));
     let closed = stream::put_text(page, put, b"): ");
     reason(page, closed, r)
@@ -168,19 +175,9 @@ fn reason(page: &mut [u8], output: Output, r: Refusal) -> Output {
     }
 }
 
-pub(crate) fn bad(page: &mut [u8], output: Output) -> Output {
-    stream::put_text(
-        page,
-        output,
-        b"The input is bad: it ends inside a call, or a word of it is none that may stand there.\n",
-    )
-}
-
-fn kept(page: &mut [u8], output: Output, radius: f64, cost: f64) -> Output {
-    let said = stream::put_text(page, output, b"\nEnd at cost ");
-    let told = number(page, said, cost);
-    let between = stream::put_text(page, told, b", radius ");
-    number(page, between, radius)
+fn end(page: &mut [u8], output: Output, cost: f64, radius: f64, awaits: Awaits) -> Output {
+    let told = kept(page, output, b"\nEnd at cost ", cost, radius);
+    waiting(page, told, awaits)
 }
 
 fn waiting(page: &mut [u8], output: Output, awaits: Awaits) -> Output {
@@ -189,6 +186,11 @@ fn waiting(page: &mut [u8], output: Output, awaits: Awaits) -> Output {
         Awaits::Cost(_, _) => stream::put_text(page, output, b", a cost is awaited.\n"),
         Awaits::Derivatives => stream::put_text(page, output, b", derivatives are awaited.\n"),
     }
+}
+
+fn ended(page: &mut [u8], output: Output, n: usize, lists: Lists) -> Output {
+    let point = standing::point(lists);
+    numbers(page, output, standing::front(&point, n))
 }
 
 // The point, a number on each line.
@@ -203,7 +205,6 @@ fn numbers(page: &mut [u8], output: Output, point: &[f64]) -> Output {
 }
 
 fn number_line(page: &mut [u8], output: Output, x: f64) -> Output {
-    let margin = stream::put_text(page, output, b"       ");
-    let told = number(page, margin, x);
+    let told = number(page, output, b"       ", x);
     stream::put_line_end(page, told)
 }

@@ -1,12 +1,17 @@
-// The calls of a TrustRegion session, and what happened in each.
-use crate::call::Call;
+// A TrustRegion session's own calls, and what happened in each.
 use crate::event::Awaits;
 use crate::event::Event;
-use crate::event::Judged;
+use crate::script;
+use crate::script::Got;
+use crate::script::Script;
 use crate::session;
-use crate::session::Begun;
-use crate::session::Made;
+use crate::session::After as Happened;
+use crate::session::Answer;
+use crate::session::Change;
 use crate::session::Session as Kinds;
+use crate::standing;
+use crate::standing::Lists;
+use crate::standing::Standing;
 use trustregion::session::After;
 use trustregion::session::Outcome;
 use trustregion::session::Phase;
@@ -15,136 +20,173 @@ use trustregion::session::Start;
 use trustregion::settings::Settings;
 use trustregion::trustregion_method;
 
-pub(crate) fn begin(settings: Settings, cost: f64) -> Begun {
+// The numbers are radius, max_radius, eta and epsilon. Where a start is refused, no call is made of what stands for it.
+pub(crate) fn begin(kernel: u64, numbers: [f64; 5], limit: u64, cost: f64) -> Happened {
+    let radius = numbers[0];
+    let settings = Settings {
+        kernel,
+        radius,
+        max_radius: numbers[1],
+        eta: numbers[2],
+        epsilon: numbers[3],
+        limit,
+    };
     let start = trustregion_method::start(settings, cost);
     match start {
-        Start::Refused(r) => Begun::Refused(r),
-        Start::Started(s) => Begun::Started(Kinds::TrustRegion(s)),
+        Start::Started(s) => happened(s, Event::Started(cost, radius)),
+        Start::Refused(r) => {
+            let none = Session {
+                settings,
+                radius,
+                cost,
+                phase: Phase::Ready,
+            };
+            happened(none, Event::NotStarted(r))
+        }
     }
 }
 
-fn made(session: Session, event: Event) -> Made {
-    Made {
+fn happened(session: Session, event: Event) -> Happened {
+    Happened {
         session: Kinds::TrustRegion(session),
         event,
     }
 }
 
-pub(crate) fn make(
-    session: Session,
-    call: Call,
-    answer: &[f64],
-    point: &mut [f64],
-    gradient: &mut [f64],
-    hessian: &mut [f64],
-    step: &mut [f64],
-    trial: &mut [f64],
-    scratch: &mut [f64],
-) -> Made {
-    match call {
-        Call::Propose(n) => {
-            let after = trustregion_method::proposed(
-                session,
-                n,
-                point,
-                gradient,
-                hessian,
-                step,
-                trial,
-                scratch,
-            );
-            told(after, 0.0)
-        }
-        Call::Cost(n, cost) => {
-            let after = trustregion_method::judged(session, n, cost, point, trial);
-            told(after, cost)
-        }
-        Call::Derivatives(n) => {
-            let after = renewed(session, n, answer, gradient, hessian);
-            told(after, 0.0)
-        }
-        Call::Put(radius, cost, awaits) => changed(session, radius, cost, awaits),
-        Call::End => ended(session),
-        Call::Bad => made(session, Event::Bad),
-    }
-}
-
-// The gradient stands at the front of the answer, and the Hessian behind it.
-fn renewed(
-    session: Session,
-    n: usize,
-    answer: &[f64],
-    gradient: &mut [f64],
-    hessian: &mut [f64],
-) -> After {
-    let size = gradient.len();
-    trustregion_method::renewed(
-        session,
-        n,
-        session::front(answer, size),
-        behind(answer, size),
-        gradient,
-        hessian,
-    )
-}
-
-fn behind(v: &[f64], n: usize) -> &[f64] {
-    if n <= v.len() {
-        return &v[n..];
-    }
-    v
-}
-
 // What a call came to; `cost` is that of the trial.
-fn told(after: After, cost: f64) -> Made {
+pub(crate) fn told(after: After, cost: f64) -> Happened {
     let session = after.session;
     let outcome = after.outcome;
     let radius = session.radius;
     let event = match outcome {
         Outcome::Refused(r) => Event::Refused(r),
         Outcome::Proposed(passes) => Event::Proposed(passes),
-        Outcome::Accepted(ratio) => Event::Accepted(Judged {
-            cost,
-            ratio,
-            radius,
-        }),
-        Outcome::Rejected(ratio) => Event::Rejected(Judged {
-            cost,
-            ratio,
-            radius,
-        }),
+        Outcome::Accepted(ratio) => Event::Judged(true, cost, ratio, radius),
+        Outcome::Rejected(ratio) => Event::Judged(false, cost, ratio, radius),
         Outcome::Taken => Event::Taken,
     };
-    made(session, event)
+    happened(session, event)
 }
 
-// As a caller can change what is its own.
-fn changed(session: Session, radius: f64, cost: f64, awaits: Awaits) -> Made {
-    let settings = session.settings;
-    let phase = match awaits {
-        Awaits::Proposal => Phase::Ready,
-        Awaits::Cost(model, norm) => Phase::AwaitingCost(model, norm),
-        Awaits::Derivatives => Phase::AwaitingDerivatives,
-    };
-    made(
-        Session {
-            settings,
-            radius,
-            cost,
-            phase,
-        },
-        Event::Changed,
+// The answer to a trial.
+pub(crate) fn judge(session: Session, answer: Answer, n: usize, before: Lists) -> Standing {
+    let cost = answer.cost;
+    let mut point = standing::point(before);
+    let trial = standing::trial(before);
+    let after = trustregion_method::judged(
+        session,
+        answer.told_n,
+        cost,
+        standing::front_mut(&mut point, n),
+        standing::front(&trial, n),
+    );
+    let mut lists = before;
+    lists.point = point;
+    standing::told(told(after, cost), lists, answer.script)
+}
+
+// 3 n g H
+pub(crate) fn renew(
+    room: &mut [u8],
+    session: Session,
+    n: usize,
+    at: Standing,
+    hessian: &mut [f64],
+) -> Standing {
+    let mut new_hessian = [0.0; 4096];
+    let square = standing::square(n);
+    answered(
+        room,
+        session,
+        n,
+        at,
+        standing::front_mut(&mut new_hessian, square),
+        hessian,
     )
 }
 
-fn ended(session: Session) -> Made {
-    let radius = session.radius;
-    let cost = session.cost;
+fn answered(
+    room: &mut [u8],
+    session: Session,
+    n: usize,
+    at: Standing,
+    new_hessian: &mut [f64],
+    hessian: &mut [f64],
+) -> Standing {
+    let mut new_gradient = [0.0; 64];
+    let told_n = derivatives(
+        room,
+        at.script,
+        standing::front_mut(&mut new_gradient, n),
+        new_hessian,
+    );
+    renewed(
+        session,
+        told_n,
+        new_gradient,
+        new_hessian,
+        n,
+        at.lists,
+        hessian,
+    )
+}
+
+fn derivatives(room: &mut [u8], script: Script, gradient: &mut [f64], hessian: &mut [f64]) -> Got {
+    let told_n = script::word(room, script);
+    let first = script::numbers(room, told_n.script, gradient);
+    let rest = script::numbers(room, first, hessian);
+    Got {
+        word: told_n.word,
+        script: rest,
+    }
+}
+
+fn renewed(
+    session: Session,
+    told_n: Got,
+    new_gradient: [f64; 64],
+    new_hessian: &[f64],
+    n: usize,
+    before: Lists,
+    hessian: &mut [f64],
+) -> Standing {
+    let mut gradient = standing::gradient(before);
+    let after = trustregion_method::renewed(
+        session,
+        told_n.word as usize,
+        standing::front(&new_gradient, n),
+        new_hessian,
+        standing::front_mut(&mut gradient, n),
+        hessian,
+    );
+    let mut lists = before;
+    lists.gradient = gradient;
+    standing::told(told(after, 0.0), lists, told_n.script)
+}
+
+pub(crate) fn changed(session: Session, to: Change) -> Happened {
+    let settings = session.settings;
+    let number = to.phase;
+    let phase = match number {
+        0 => Phase::Ready,
+        1 => Phase::AwaitingCost(to.a, to.b),
+        _ => Phase::AwaitingDerivatives,
+    };
+    let changed = Session {
+        settings,
+        radius: to.radius,
+        cost: to.cost,
+        phase,
+    };
+    happened(changed, session::event_of(to, 2))
+}
+
+pub(crate) fn ended(session: Session) -> Event {
     let phase = session.phase;
     let awaits = match phase {
         Phase::Ready => Awaits::Proposal,
         Phase::AwaitingCost(model, norm) => Awaits::Cost(model, norm),
         Phase::AwaitingDerivatives => Awaits::Derivatives,
     };
-    made(session, Event::Ended(radius, cost, awaits))
+    Event::Ended(session.radius, session.cost, awaits)
 }

@@ -1,146 +1,154 @@
-// The arguments of a call: whole numbers, lists of numbers, and lengths of what is lent. Three lists
-// stand side by side, in slots of 8192 numbers.
+// The arguments of a call, read one after another: words, lists of numbers, and lengths of what is lent. From the first
+// that is bad on, each counts as 0.
 use stream::Filled;
 use stream::Input;
 use stream::Word;
 
-// A length, and the place after it.
-pub(crate) enum Lent {
-    Of(usize, Input),
-    Bad,
+// What was read last, a word or how many numbers; the call's n, where it was read; the place of the next; and whether one
+// was bad.
+pub(crate) struct Got {
+    pub(crate) word: u64,
+    pub(crate) n: usize,
+    pub(crate) input: Input,
+    pub(crate) bad: bool,
 }
 
-// n and the length of a list, which stands in slot 0.
-pub(crate) enum One {
-    Is(usize, usize, Input),
-    Bad,
-}
-
-// n and the lengths of two lists, which stand in slots 0 and 1.
-pub(crate) enum Two {
-    Are(usize, usize, usize, Input),
-    Bad,
-}
-
-// n and three lengths, of lists or of what is lent.
-pub(crate) enum Three {
-    Are(usize, usize, usize, usize, Input),
-    Bad,
-}
-
-// Reads a length. One above `most` is bad input.
-pub fn length(room: &mut [u8], input: Input, most: u64) -> Lent {
-    let word = stream::next_word(room, input);
-    let Word::Is(count, next) = word else {
-        return Lent::Bad;
-    };
-    if most < count {
-        return Lent::Bad;
+// Before the first.
+pub fn none(input: Input) -> Got {
+    Got {
+        word: 0,
+        n: 0,
+        input,
+        bad: false,
     }
-    Lent::Of(count as usize, next)
 }
 
-// Reads a list into a slot.
-fn list(room: &mut [u8], input: Input, slot: &mut [f64]) -> Lent {
-    let count = length(room, input, 8192);
-    let Lent::Of(n, next) = count else {
-        return Lent::Bad;
-    };
-    let filled = stream::numbers(room, next, slot, n);
+pub fn bad(before: Got) -> Got {
+    let input = before.input;
+    Got {
+        word: 0,
+        n: 0,
+        input,
+        bad: true,
+    }
+}
+
+fn next(before: Got, word: u64, input: Input) -> Got {
+    Got {
+        word,
+        n: before.n,
+        input,
+        bad: before.bad,
+    }
+}
+
+pub fn word(room: &mut [u8], before: Got) -> Got {
+    if before.bad {
+        return before;
+    }
+    let read = stream::next_word(room, before.input);
+    match read {
+        Word::Is(word, input) => next(before, word, input),
+        _ => bad(before),
+    }
+}
+
+// The length of what is lent. One above `most` is bad.
+pub fn length(room: &mut [u8], before: Got, most: u64) -> Got {
+    let got = word(room, before);
+    if most < got.word {
+        return bad(got);
+    }
+    got
+}
+
+// So many numbers.
+pub fn numbers(room: &mut [u8], before: Got, out: &mut [f64], count: u64) -> Got {
+    let filled = stream::numbers(room, before.input, out, count as usize);
     match filled {
-        Filled::To(place) => Lent::Of(n, place),
-        Filled::Missing => Lent::Bad,
+        Filled::To(input) => next(before, count, input),
+        Filled::Missing => bad(before),
     }
 }
 
-// Reads n and a list.
-pub fn read_one(room: &mut [u8], input: Input, a: &mut [f64]) -> One {
-    let size = stream::next_word(room, input);
-    let Word::Is(n, next) = size else {
-        return One::Bad;
-    };
-    let first = list(room, next, a);
-    match first {
-        Lent::Of(k, place) => One::Is(n as usize, k, place),
-        Lent::Bad => One::Bad,
+// A length and a list, which is bad where it is longer than its room.
+pub fn list(room: &mut [u8], before: Got, out: &mut [f64]) -> Got {
+    let count = word(room, before);
+    numbers(room, count, out, count.word)
+}
+
+// n and a list.
+pub fn sized(room: &mut [u8], before: Got, out: &mut [f64]) -> Got {
+    let first = word(room, before);
+    list(room, told(first), out)
+}
+
+// How many numbers a list has, and what was read behind it.
+pub(crate) struct Two {
+    pub(crate) first: u64,
+    pub(crate) second: Got,
+}
+
+// n and two lists.
+pub fn sized_two(room: &mut [u8], before: Got, a: &mut [f64], b: &mut [f64]) -> Two {
+    let k = sized(room, before, a);
+    let l = list(room, k, b);
+    Two {
+        first: k.word,
+        second: l,
     }
 }
 
-// Reads n and two lists.
-pub fn read_two(room: &mut [u8], input: Input, a: &mut [f64], b: &mut [f64]) -> Two {
-    let first = read_one(room, input, a);
-    let One::Is(n, k, next) = first else {
-        return Two::Bad;
-    };
-    let second = list(room, next, b);
-    match second {
-        Lent::Of(l, place) => Two::Are(n, k, l, place),
-        Lent::Bad => Two::Bad,
-    }
+// The same of two lists.
+pub(crate) struct Three {
+    pub(crate) first: u64,
+    pub(crate) second: u64,
+    pub(crate) third: Got,
 }
 
-// Reads n and three lists.
-pub fn read_three(
+// n and three lists.
+pub fn sized_three(
     room: &mut [u8],
-    input: Input,
+    before: Got,
     a: &mut [f64],
     b: &mut [f64],
     c: &mut [f64],
 ) -> Three {
-    let read = read_two(room, input, a, b);
-    let Two::Are(n, k, l, next) = read else {
-        return Three::Bad;
-    };
-    let third = list(room, next, c);
-    match third {
-        Lent::Of(m, place) => Three::Are(n, k, l, m, place),
-        Lent::Bad => Three::Bad,
+    let read = sized_two(room, before, a, b);
+    let l = read.second;
+    let m = list(room, l, c);
+    Three {
+        first: read.first,
+        second: l.word,
+        third: m,
     }
 }
 
-// Reads n, two lists, and the length of an output.
-pub fn read_two_and_length(room: &mut [u8], input: Input, a: &mut [f64], b: &mut [f64]) -> Three {
-    let read = read_two(room, input, a, b);
-    let Two::Are(n, k, l, next) = read else {
-        return Three::Bad;
-    };
-    let output = length(room, next, 8704);
-    match output {
-        Lent::Of(m, place) => Three::Are(n, k, l, m, place),
-        Lent::Bad => Three::Bad,
+// A word that is the call's n.
+fn told(got: Got) -> Got {
+    let input = got.input;
+    Got {
+        word: got.word,
+        n: got.word as usize,
+        input,
+        bad: got.bad,
     }
 }
 
-// Reads n, a list, and the lengths of an output and a scratch.
-pub fn read_one_and_lengths(room: &mut [u8], input: Input, a: &mut [f64]) -> Three {
-    let read = read_one(room, input, a);
-    let One::Is(n, k, next) = read else {
-        return Three::Bad;
-    };
-    let output = length(room, next, 8704);
-    let Lent::Of(l, past) = output else {
-        return Three::Bad;
-    };
-    let scratch = length(room, past, 8704);
-    match scratch {
-        Lent::Of(m, place) => Three::Are(n, k, l, m, place),
-        Lent::Bad => Three::Bad,
-    }
-}
-
-// The first n numbers of v, which has them wherever n was read by one of the above.
-pub fn first(v: &[f64], n: usize) -> &[f64] {
+// The first numbers of a list, as many as were read to it.
+pub fn first(v: &[f64], count: u64) -> &[f64] {
+    let n = count as usize;
     if n <= v.len() {
         return &v[0..n];
     }
     v
 }
 
-// +0 throughout.
-pub fn blank(v: &mut [f64]) {
-    let mut i = 0;
-    while i < v.len() {
-        v[i] = 0.0;
-        i += 1;
+// The same of a list that is lent.
+pub fn first_mut(v: &mut [f64], count: u64) -> &mut [f64] {
+    let n = count as usize;
+    if n <= v.len() {
+        return &mut v[0..n];
     }
+    v
 }

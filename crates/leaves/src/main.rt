@@ -5,83 +5,68 @@
 mod calls;
 mod lines;
 mod lists;
+mod numbers;
 
-use lines::Step;
+use lines::Turn;
 use stream::Input;
 use stream::Output;
 use stream::Word;
+ghost use Prim.Native.Nat.{_-_, _≤_};
 
-fn next_call(
-    room: &mut [u8],
-    page: &mut [u8],
-    a: &mut [f64],
-    b: &mut [f64],
-    c: &mut [f64],
-    out: &mut [f64],
-    scratch: &mut [f64],
-    input: Input,
-    output: Output,
-) -> Step {
-    let word = stream::next_word(room, input);
+fn next_call(room: &mut [u8], page: &mut [u8], turn: Turn) -> Turn {
+    let output = turn.output;
+    let word = stream::next_word(room, turn.input);
     match word {
-        Word::Is(number, next) => match number {
-            1 => calls::root(room, page, next, output),
-            2 => calls::ratio(room, page, next, output),
-            3 => calls::dot(room, page, a, b, next, output),
-            4 => calls::norm(room, page, a, next, output),
-            5 => calls::weighted_dot(room, page, a, b, c, next, output),
-            6 => calls::product(room, page, a, b, out, next, output),
-            7 => calls::inverse(room, page, a, out, scratch, next, output),
-            8 => calls::row(room, page, a, next, output),
-            _ => lines::bad(page, output),
-        },
+        Word::Is(number, input) => call(room, page, number, input, output),
         Word::End => lines::stop(page, output),
         Word::Short => lines::bad(page, output),
     }
 }
 
-// A proved loop has to end, and nothing says that an input does: the calls are counted down from a
-// number that no run uses up.
-fn run(
-    room: &mut [u8],
-    page: &mut [u8],
-    a: &mut [f64],
-    b: &mut [f64],
-    c: &mut [f64],
-    out: &mut [f64],
-    scratch: &mut [f64],
-) {
-    let mut input = stream::start();
-    let mut output = stream::top();
-    let mut left = u64::MAX;
-    while left > 0 {
-        left -= 1;
-        match next_call(room, page, a, b, c, out, scratch, input, output) {
-            Step::Next(next, put) => {
-                input = next;
-                output = put;
-            }
-            Step::Stop => return,
+fn call(room: &mut [u8], page: &mut [u8], number: u64, input: Input, output: Output) -> Turn {
+    let place = lists::none(input);
+    match number {
+        6 => calls::product(room, page, place, output),
+        7 => calls::inverse(room, page, place, output),
+        8 => calls::row(room, page, place, output),
+        _ => {
+            let found = numbers::call(room, number, place);
+            let number = found.number;
+            lines::answer(page, output, found.next, number)
         }
     }
 }
 
-// Three lists of 8192 numbers, and an output and a scratch of 8704, the scratch at n = 64.
+// How many calls there may be after one of so many.
+fn fewer(left: u64, over: bool) -> u64
+    ensures { λ r. ⌜ r ≤ left - 1 ⌝ }
+{
+    if over {
+        return 0;
+    }
+    if left == 0 {
+        return 0;
+    }
+    left - 1
+}
+
+// A proved loop has to end, and nothing says that an input does: the calls are counted down from a
+// number that no run uses up.
+fn run(room: &mut [u8], page: &mut [u8]) {
+    let mut turn = Turn {
+        input: stream::start(),
+        output: stream::top(),
+        over: false,
+    };
+    let mut left = u64::MAX;
+    while left > 0 {
+        turn = next_call(room, page, turn);
+        left = fewer(left, turn.over);
+    }
+}
+
 fn main() {
     let mut room = io::large_buffer();
     let mut page = io::large_buffer();
-    let mut a = [0.0; 8192];
-    let mut b = [0.0; 8192];
-    let mut c = [0.0; 8192];
-    let mut out = [0.0; 8704];
-    let mut scratch = [0.0; 8704];
-    run(
-        &mut room,
-        &mut page,
-        &mut a,
-        &mut b,
-        &mut c,
-        &mut out,
-        &mut scratch,
-    );
+    run(&mut room, &mut page);
 }

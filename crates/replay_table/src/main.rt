@@ -4,12 +4,7 @@ use fit::Manner;
 fn main() {
     let mut room = io::large_buffer();
     let mut page = io::large_buffer();
-    let ran = fit::run(
-        Manner::Table,
-        &mut room,
-        &mut page,
-        fit::whole_input(),
-        stream::top(),
-    );
+    let script = fit::whole_input();
+    let ran = fit::run(Manner::Table, &mut room, &mut page, script, stream::top());
     stream::flush(&page, ran.output);
 }

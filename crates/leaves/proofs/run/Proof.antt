@@ -1,34 +1,21 @@
 -- `leaves::run` is safe and ends: the count of calls falls. Assumes nothing.
 use mathlib.Core.Path.{_≡_, refl}
-use native.Mathlib.Omega.{arith}
 use borrow.Author.Needs.{needs}
 use lib.ListN.{length}
 use Rattle.leaves.proofs.run.Statement.{statement}
 use Rattle.leaves.proofs.run.Tie as tie
 
 abbrev Inv-loop : tie.InvT-loop
-Inv-loop room₀ page₀ a₀ b₀ c₀ out₀ scratch₀ input₀ output₀ left₀ room page a b c out scratch input output left =
-    (length room ≡ length room₀)
-    × (length page ≡ length page₀)
-    × (length a ≡ length a₀)
-    × (length b ≡ length b₀)
-    × (length c ≡ length c₀)
-    × (length out ≡ length out₀)
-    × (length scratch ≡ length scratch₀)
+Inv-loop room₀ page₀ turn₀ left₀ room page turn left = (length room ≡ length room₀) × (length page ≡ length page₀)
 
 abbrev μ-loop : tie.MeasureT-loop
-μ-loop room₀ page₀ a₀ b₀ c₀ out₀ scratch₀ input₀ output₀ left₀ room page a b c out scratch input output left = left
+μ-loop room₀ page₀ turn₀ left₀ room page turn left = left
 
 pub run-spec : {M : Type 1} → statement M
 run-spec =
     tie.close
     (tie.spec Inv-loop μ-loop
     (λ c κs. tt) (λ c κs. tt)
-    (λ c. (refl, refl, refl, refl, refl, refl, refl))
-    (λ c. search needs) (λ c κs. tt) (λ c. search needs)
-    (λ c. omega arith) (λ c. omega arith)
-    (λ c. search needs)
-    (λ c. search needs) (λ c. search needs) (λ c. search needs) (λ c. search needs) (λ c. search needs) (λ c. search needs) (λ c. search needs)
-    (λ c. search needs)
-    (λ c. search needs) (λ c. search needs) (λ c. search needs) (λ c. search needs) (λ c. search needs) (λ c. search needs) (λ c. search needs)
-    (λ c. search needs))
+    (λ c. (refl, refl))
+    (λ c κs. tt) (λ c κs. tt)
+    (λ c. search needs) (λ c. search needs) (λ c. search needs) (λ c. search needs) (λ c. search needs))

@@ -22,4 +22,4 @@ numbers-spec =
     (λ c κs. search needs) (λ c. search needs)
     (λ c κs. search needs) (λ c. search needs) (λ c. search needs) (λ c κs. search needs) (λ c. search needs) (λ c. search needs)
     loop-again
-    (λ c κs. search needs) (λ c. search needs) (λ c. search needs))
+    (λ c. search needs) (λ c. search needs))

@@ -12,9 +12,6 @@ Inv-loop page₀ v put₀ i₀ page put i = length page ≡ length page₀
 abbrev μ-loop : tie.MeasureT-loop
 μ-loop page₀ v put₀ i₀ page put i = length v - i
 
-loop-again : tie.Need-loop-again Inv-loop μ-loop
-loop-again c = search needs
-
 pub numbers-spec : {M : Type 1} → statement M
 numbers-spec =
     tie.close
@@ -22,5 +19,5 @@ numbers-spec =
     (λ c. search needs) (λ c κs. search needs)
     (λ c. search needs)
     (λ c κs. search needs) (λ c. search needs) (λ c. search needs) (λ c κs. search needs) (λ c. search needs) (λ c. search needs)
-    loop-again
+    (λ c. search needs)
     (λ c κs. search needs) (λ c. search needs) (λ c. search needs))
