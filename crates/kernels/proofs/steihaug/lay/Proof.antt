@@ -10,34 +10,6 @@ returns c =
     let began = c .before .before .before .before .before .before .before in
     at-once _ _ _ _ _ _ _ _ _ (began .before .before .norm-any .ensures) (began .start .ensures) _ (began .start .kept .1 .0) _ _ (c .before .before .before .before .if1 .taken) (c .before .before .settle .ensures)
 
-returns-2 : tie.Need-returns-2
-returns-2 c =
-    let done = c .before .before .before .before .before .before .before .before .before in
-    let began = done .before .before .before .before .before in
-    in-passes _ _ _ _ _ _ _ _ _ (began .before .before .norm-any .ensures) (began .start .ensures) _ (began .start .kept .1 .0)
-    _ _ (done .before .before .if1 .left) (rw (c .before .before .before .before .before .end .given .1) at (done .run .ensures)) _ _ _ 0 (done .run .kept .1 .0) refl (c .before .before .settle2 .ensures)
-
-returns-3 : tie.Need-returns-3
-returns-3 c =
-    let done = c .before .before .before .before .before .before .before .before .before in
-    let began = done .before .before .before .before .before in
-    in-passes _ _ _ _ _ _ _ _ _ (began .before .before .norm-any .ensures) (began .start .ensures) _ (began .start .kept .1 .0)
-    _ _ (done .before .before .if1 .left) (rw (c .before .before .before .before .before .end2 .given .1) at (done .run .ensures)) _ _ _ 6 (done .run .kept .1 .0) refl (c .before .before .settle3 .ensures)
-
-returns-4 : tie.Need-returns-4
-returns-4 c =
-    let done = c .before .before .before .before .before .before .before .before .before in
-    let began = done .before .before .before .before .before in
-    in-passes _ _ _ _ _ _ _ _ _ (began .before .before .norm-any .ensures) (began .start .ensures) _ (began .start .kept .1 .0)
-    _ _ (done .before .before .if1 .left) (rw (c .before .before .before .before .before .end3 .given .1) at (done .run .ensures)) _ _ _ 6 (done .run .kept .1 .0) refl (c .before .before .settle4 .ensures)
-
-returns-5 : tie.Need-returns-5
-returns-5 c =
-    let done = c .before .before .before .before .before .before .before .before .before in
-    let began = done .before .before .before .before .before in
-    without-root _ _ _ _ _ _ _ _ _ (began .before .before .norm-any .ensures) (began .start .ensures) _ (began .start .kept .1 .0)
-    _ _ (done .before .before .if1 .left) (rw (c .before .before .before .before .before .end4 .given .1) at (done .run .ensures)) _ _ (done .run .kept .1 .0) refl (c .before .before .clear .ensures)
-
 pub lay-spec : {M : Type 1} → statement M
 lay-spec =
     tie.close
@@ -47,10 +19,26 @@ lay-spec =
     (λ c κs. search needs)
     (λ c. search needs) (λ c κs. search needs) (λ c. search needs) (λ c κs. search needs) (λ c. search needs) (λ c κs. search needs) (λ c. search needs) (λ c κs. search needs)
     (λ c. search needs)
-    returns-2
+    (λ c.
+    let done = c .before .before .before .before .before .before .before .before .before in
+    let began = done .before .before .before .before .before in
+    in-passes _ _ _ _ _ _ _ _ _ (began .before .before .norm-any .ensures) (began .start .ensures) _ (began .start .kept .1 .0)
+    _ _ (done .before .before .if1 .left) (rw (c .before .before .before .before .before .end .given .1) at (done .run .ensures)) _ _ _ 0 (done .run .kept .1 .0) refl (c .before .before .settle2 .ensures))
     (λ c. search needs)
-    returns-3
+    (λ c.
+    let done = c .before .before .before .before .before .before .before .before .before in
+    let began = done .before .before .before .before .before in
+    in-passes _ _ _ _ _ _ _ _ _ (began .before .before .norm-any .ensures) (began .start .ensures) _ (began .start .kept .1 .0)
+    _ _ (done .before .before .if1 .left) (rw (c .before .before .before .before .before .end2 .given .1) at (done .run .ensures)) _ _ _ 6 (done .run .kept .1 .0) refl (c .before .before .settle3 .ensures))
     (λ c. search needs)
-    returns-4
+    (λ c.
+    let done = c .before .before .before .before .before .before .before .before .before in
+    let began = done .before .before .before .before .before in
+    in-passes _ _ _ _ _ _ _ _ _ (began .before .before .norm-any .ensures) (began .start .ensures) _ (began .start .kept .1 .0)
+    _ _ (done .before .before .if1 .left) (rw (c .before .before .before .before .before .end3 .given .1) at (done .run .ensures)) _ _ _ 6 (done .run .kept .1 .0) refl (c .before .before .settle4 .ensures))
     (λ c. search needs)
-    returns-5)
+    (λ c.
+    let done = c .before .before .before .before .before .before .before .before .before in
+    let began = done .before .before .before .before .before in
+    without-root _ _ _ _ _ _ _ _ _ (began .before .before .norm-any .ensures) (began .start .ensures) _ (began .start .kept .1 .0)
+    _ _ (done .before .before .if1 .left) (rw (c .before .before .before .before .before .end4 .given .1) at (done .run .ensures)) _ _ (done .run .kept .1 .0) refl (c .before .before .clear .ensures)))
