@@ -6,7 +6,6 @@ mod output;
 
 pub use input::Filled;
 pub use input::Input;
-pub use input::Number;
 pub use input::Word;
 pub use input::next_number;
 pub use input::next_word;

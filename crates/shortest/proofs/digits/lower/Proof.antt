@@ -80,12 +80,6 @@ loop-again c =
     let more = lower-more (head .k) odd (value (head .r)) (value (head .u)) s (lowers 400 odd (value (start .args .r .now) + 2 * value (start .args .u .now)) s) (omega arith) t (head .inv .1) in
     (omega arith, rw (e, f) more, e ∙ power-more 10 (head .k) (value (head .r)) (value (start .args .r .now)) (head .inv .2), f ∙ power-more 10 (head .k) (value (head .u)) (value (start .args .u .now)) (head .inv .3), omega arith, omega arith, search needs, search needs)
 
-returns-2 : tie.Need-returns-2 Inv-loop μ-loop
-returns-2 c =
-    let start = c .before .before .before .before .before in
-    let head = c .before .loop in
-    absurd (never (head .k) (value (head .u)) (value (start .args .u .now)) (omega arith) (head .inv .3) (start .pre .1 .0) (omega arith))
-
 pub lower-spec : {M : Type 1} → statement M
 lower-spec =
     tie.close
@@ -93,4 +87,7 @@ lower-spec =
     loop-again
     (λ c. c .before .loop .inv .6 ∙ sym (c .before .before .before .before .before .pre .0 .1))
     (λ c. c .before .loop .inv .7 ∙ sym (c .before .before .before .before .before .pre .0 .2))
-    returns-2)
+    (λ c.
+    let start = c .before .before .before .before .before in
+    let head = c .before .loop in
+    absurd (never (head .k) (value (head .u)) (value (start .args .u .now)) (omega arith) (head .inv .3) (start .pre .1 .0) (omega arith))))

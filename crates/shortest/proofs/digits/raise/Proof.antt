@@ -59,16 +59,13 @@ loop-again c =
     let more = raise-more (head .k) odd top (value (head .s)) (raises 400 odd top (value (start .args .s .now))) (omega arith) t (head .inv .1) in
     (omega arith, rw e more, e ∙ power-more 10 (head .k) (value (head .s)) (value (start .args .s .now)) (head .inv .2), omega arith, search needs)
 
-returns-2 : tie.Need-returns-2 Inv-loop μ-loop
-returns-2 c =
-    let start = c .before .before .before .before .before in
-    let head = c .before .loop in
-    absurd (never (head .k) (value (head .s)) (value (start .args .s .now)) (omega arith) (head .inv .2) (start .pre .1 .0) (omega arith))
-
 pub raise-spec : {M : Type 1} → statement M
 raise-spec =
     tie.close
     (tie.spec Inv-loop μ-loop loop-holds (λ c κs. search needs) same-length returns times-requires (λ c. omega arith) (λ c. omega arith)
     loop-again
     (λ c. c .before .loop .inv .4 ∙ sym (c .before .before .before .before .before .pre .0 .0))
-    returns-2)
+    (λ c.
+    let start = c .before .before .before .before .before in
+    let head = c .before .loop in
+    absurd (never (head .k) (value (head .s)) (value (start .args .s .now)) (omega arith) (head .inv .2) (start .pre .1 .0) (omega arith))))
