@@ -1,8 +1,7 @@
 /* Reads from outside the bits of what the Rattle functions hand out. To the proofs all NaN are one, so only a run can see
    whether 7ff8000000000000 is the one that leaves. There are no headers where this is compiled: what is called is declared. */
 
-typedef unsigned long word;
-int printf(const char *, ...);
+#include "see.h"
 
 double one_nan(double), magnitude(double), smaller(double, double), float_of(word), root(double);
 word bits_of(double);
@@ -16,19 +15,12 @@ double mboyaxin_norm_any(const double *a, word al);
 double mboyaxin_weighted_dot(word n, const double *a, word al, const double *h, word hl, const double *b, word bl);
 word mboyaxin_product(word n, const double *h, word hl, const double *d, word dl, double *out, word ol);
 word mboyaxin_inverse(word n, const double *h, word hl, double *out, word ol, double *scratch, word sl);
+typedef word kernel(word n, double radius, double epsilon, word limit, const double *gradient, word gl, const double *hessian, word hl, double *step, word sl, double *scratch, word wl);
+kernel mboyaxin_cauchy_point, mboyaxin_dogleg, mboyaxin_steihaug;
 
-static const word ONE_NAN = 0x7ff8000000000000;
-static const word SIGN = 0x8000000000000000;
-static const word TOP = 0x7ff0000000000000;
+word patterns, wrong;
 
-/* Bits are read and written as whole numbers: no operation on a NaN comes between. */
-static word bits(double x) { union { double x; word w; } u = { .x = x }; return u.w; }
-static double number(word w) { union { double x; word w; } u = { .w = w }; return u.x; }
-static int nan_bits(word w) { return (w & ~SIGN) > TOP; }
-
-static word patterns, wrong;
-
-static void see(const char *name, word input, word got, word right) {
+void see(const char *name, word input, word got, word right) {
     patterns++;
     if (got == right) return;
     if (++wrong <= 10) printf("%s of %016lx hands out %016lx, not %016lx\n", name, input, got, right);
@@ -65,10 +57,7 @@ static void see_patterns(void) {
 
 /* ---- functions that make a NaN themselves */
 
-/* What it can come from: NaN of both signs and kinds, infinities, zeros, and numbers whose sums, products and quotients
-   overflow or vanish. */
-#define SOURCES 14
-static const word sources[SOURCES] = {
+const word sources[SOURCES] = {
     0x7ff8000000000000, 0xfff8000000000000, 0x7ff0000000000001, 0xfff40000deadbeef, 0x7ff0000000000000, 0xfff0000000000000,
     0x0000000000000000, 0x8000000000000000, 0x3ff0000000000000, 0xbff0000000000000, 0x7fefffffffffffff, 0xffefffffffffffff,
     0x0000000000000001, 0x8010000000000000,
@@ -89,10 +78,44 @@ static void list(double *v, int length, word k) {
     for (int i = 0; i < length; i++, k /= SOURCES) v[i] = number(sources[k % SOURCES]);
 }
 
+/* What is lent to be written begins as NaN of many patterns: an output of four numbers, and a scratch. */
+static double lent[4 + 24];
+static word refused;
+
+static word pattern(word i) { return sources[i % 4] + i; }
+
+static void lend(void) {
+    for (word i = 0; i < 28; i++) lent[i] = number(pattern(i));
+}
+
+/* A refusal leaves every bit; from 6 on the scratch that was lent is +0. */
+static void see_refused(const char *name, word refusal, word room) {
+    refused++;
+    for (word i = 0; i < 28; i++) {
+        word right = refusal > 5 && i >= 4 && i < 4 + room ? 0 : pattern(i);
+        if (bits(lent[i]) != right) see(name, refusal, bits(lent[i]), right);
+    }
+}
+
 static void see_matrix(const double *h, word n) {
-    double out[4], scratch[24];
-    if (mboyaxin_inverse(n, h, n * n, out, n * n, scratch, 2 * n * n + 8 * n)) return;
-    for (word i = 0; i < n * n; i++) look(INVERSE, out[i]);
+    word room = 2 * n * n + 8 * n;
+    lend();
+    word refusal = mboyaxin_inverse(n, h, n * n, lent, n * n, lent + 4, room);
+    if (refusal) see_refused(names[INVERSE], refusal, room);
+    else for (word i = 0; i < n * n; i++) look(INVERSE, lent[i]);
+}
+
+/* A kernel hands out no NaN at all. */
+static void see_kernel(const char *name, kernel *k) {
+    double v[3];
+    for (word i = 0; i < 2 * SOURCES * SOURCES * SOURCES; i++) {
+        word n = 1 + i % 2;
+        list(v, 3, i / 2);
+        lend();
+        word refusal = k(n, v[0], 1e-9, 5, v + 1, 1, v + 2, 1, lent, 1, lent + 4, 10);
+        if (refusal) see_refused(name, refusal, 10);
+        else if (nan_bits(bits(lent[0]))) see(name, 0, bits(lent[0]), 0);
+    }
 }
 
 static void see_made(void) {
@@ -116,17 +139,25 @@ static void see_made(void) {
     for (word k = 0; k < SOURCES; k++) {
         list(v, 1, k);
         see_matrix(v, 1);
+        lend();
+        word refusal = mboyaxin_product(2, v, 1, v, 1, lent, 1);
+        if (refusal) see_refused(names[PRODUCT], refusal, 0);
     }
+    see_kernel("cauchy_point", mboyaxin_cauchy_point);
+    see_kernel("dogleg", mboyaxin_dogleg);
+    see_kernel("steihaug", mboyaxin_steihaug);
 }
 
 int main(void) {
     see_patterns();
     see_made();
+    see_sessions();
     for (int f = 0; f < FUNCTIONS; f++) printf("%s: %lu NaN made\n", names[f], found[f]);
+    printf("product, inverse and kernels: %lu refused calls\n", refused);
     if (wrong) {
         printf("%lu of %lu patterns are wrong\n", wrong, patterns);
         return 1;
     }
-    printf("%lu patterns read, each NaN is %016lx\n", patterns, ONE_NAN);
+    printf("%lu patterns read, each NaN is %016lx; a refused call leaves every bit\n", patterns, ONE_NAN);
     return 0;
 }

@@ -7,6 +7,7 @@ pub mod Offer
 pub mod TrustRegion
 pub mod Sr1
 pub mod Foreign
+pub mod ForeignSessions
 pub mod Words
 pub mod Stream
 pub mod Case

@@ -13,11 +13,11 @@ use Rattle.sr1.proofs.session as session
 use Rattle.sr1.proofs.sr1_trustregion as method
 use Rattle.sr1.proofs.in_place as place
 
-proposes : {s : Session} {r r₂ : After} {a : Answer Proposal} {step trial scratch step₁ trial₁ scratch₁ step₂ trial₂ scratch₂ : List Float}
+pub proposes : {s : Session} {r r₂ : After} {a : Answer Proposal} {step trial scratch step₁ trial₁ scratch₁ step₂ trial₂ scratch₂ : List Float}
     → Proposes a s step trial scratch r step₁ trial₁ scratch₁ → Proposes a s step trial scratch r₂ step₂ trial₂ scratch₂ → (r ≡ r₂) × (step₁ ≡ step₂) × (trial₁ ≡ trial₂) × (scratch₁ ≡ scratch₂)
 proposes p q = (alike (p .says) (q .says), alike (p .leaves-step) (q .leaves-step), alike (p .leaves-trial) (q .leaves-trial), alike (p .leaves-scratch) (q .leaves-scratch))
 
-judges : {s : Session} {r r₂ : After} {a : Answer Judgement} {point gradient hessian scratch point₁ gradient₁ hessian₁ scratch₁ point₂ gradient₂ hessian₂ scratch₂ : List Float}
+pub judges : {s : Session} {r r₂ : After} {a : Answer Judgement} {point gradient hessian scratch point₁ gradient₁ hessian₁ scratch₁ point₂ gradient₂ hessian₂ scratch₂ : List Float}
     → Judges a s point gradient hessian scratch r point₁ gradient₁ hessian₁ scratch₁ → Judges a s point gradient hessian scratch r₂ point₂ gradient₂ hessian₂ scratch₂
     → (r ≡ r₂) × (point₁ ≡ point₂) × (gradient₁ ≡ gradient₂) × (hessian₁ ≡ hessian₂) × (scratch₁ ≡ scratch₂)
 judges p q =

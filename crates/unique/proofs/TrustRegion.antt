@@ -13,14 +13,14 @@ use Rattle.trustregion.proofs.session as session
 use Rattle.trustregion.proofs.trustregion_method as method
 use Rattle.trustregion.proofs.in_place as place
 
-proposes : {s : Session} {r r₂ : After} {a : Answer Proposal} {step trial scratch step₁ trial₁ scratch₁ step₂ trial₂ scratch₂ : List Float}
+pub proposes : {s : Session} {r r₂ : After} {a : Answer Proposal} {step trial scratch step₁ trial₁ scratch₁ step₂ trial₂ scratch₂ : List Float}
     → Proposes a s step trial scratch r step₁ trial₁ scratch₁ → Proposes a s step trial scratch r₂ step₂ trial₂ scratch₂ → (r ≡ r₂) × (step₁ ≡ step₂) × (trial₁ ≡ trial₂) × (scratch₁ ≡ scratch₂)
 proposes p q = (alike (p .says) (q .says), alike (p .leaves-step) (q .leaves-step), alike (p .leaves-trial) (q .leaves-trial), alike (p .leaves-scratch) (q .leaves-scratch))
 
-judges : {s : Session} {r r₂ : After} {a : Answer Judgement} {point point₁ point₂ : List Float} → Judges a s point r point₁ → Judges a s point r₂ point₂ → (r ≡ r₂) × (point₁ ≡ point₂)
+pub judges : {s : Session} {r r₂ : After} {a : Answer Judgement} {point point₁ point₂ : List Float} → Judges a s point r point₁ → Judges a s point r₂ point₂ → (r ≡ r₂) × (point₁ ≡ point₂)
 judges p q = (alike (p .says) (q .says), alike (p .leaves-point) (q .leaves-point))
 
-renews : {s : Session} {r r₂ : After} {a : Answer Renewal} {gradient hessian gradient₁ hessian₁ gradient₂ hessian₂ : List Float}
+pub renews : {s : Session} {r r₂ : After} {a : Answer Renewal} {gradient hessian gradient₁ hessian₁ gradient₂ hessian₂ : List Float}
     → Renews a s gradient hessian r gradient₁ hessian₁ → Renews a s gradient hessian r₂ gradient₂ hessian₂ → (r ≡ r₂) × (gradient₁ ≡ gradient₂) × (hessian₁ ≡ hessian₂)
 renews p q = (alike (p .says) (q .says), alike (p .leaves-gradient) (q .leaves-gradient), alike (p .leaves-hessian) (q .leaves-hessian))
 

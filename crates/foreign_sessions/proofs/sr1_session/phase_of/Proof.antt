@@ -1,0 +1,13 @@
+-- `foreign_sessions::sr1_session::phase_of` meets its contract. Assumes nothing.
+use borrow.Author.Tests.{eq-eqb, ne-eqb}
+use Rattle.foreign_sessions.proofs.sr1_session.phase_of.Statement.{statement}
+use Rattle.foreign_sessions.proofs.sr1_session.phase_of.Tie as tie
+
+returns : tie.Need-returns
+returns c = rw (eq-eqb _ _ (c .if1 .taken))
+
+returns-2 : tie.Need-returns-2
+returns-2 c = rw (ne-eqb _ _ (c .if1 .left))
+
+pub phase-of-spec : {M : Type 1} → statement M
+phase-of-spec = tie.close (tie.spec returns returns-2)

@@ -1,0 +1,250 @@
+/* Reads from outside the bits of what the sessions hand out and keep, and of what a refused call leaves: crates/foreign_sessions,
+   over every call of both kinds. */
+
+#include "see.h"
+
+/* A session is five words and nine numbers, for SR1 ten; a slice is a pointer and a length. */
+word mboyaxin_trustregion_start(word *words, double *numbers);
+word mboyaxin_trustregion_propose(word *words, double *numbers, word n, const double *point, word pl, const double *gradient, word gl,
+    const double *hessian, word hl, double *step, word sl, double *trial, word tl, double *scratch, word wl);
+word mboyaxin_trustregion_answer_cost(word *words, double *numbers, word n, double cost, double *point, word pl, const double *trial, word tl);
+word mboyaxin_trustregion_answer_derivatives(word *words, double *numbers, word n, const double *new_gradient, word ngl,
+    const double *new_hessian, word nhl, double *gradient, word gl, double *hessian, word hl);
+word mboyaxin_sr1_start(word *words, double *numbers);
+word mboyaxin_sr1_propose(word *words, double *numbers, word n, const double *point, word pl, const double *gradient, word gl,
+    const double *hessian, word hl, double *step, word sl, double *trial, word tl, double *scratch, word wl);
+word mboyaxin_sr1_answer(word *words, double *numbers, word n, double cost, const double *new_gradient, word ngl, double *point, word pl,
+    const double *step, word sl, const double *trial, word tl, double *gradient, word gl, double *hessian, word hl, double *scratch, word wl);
+
+enum { KERNEL, LIMIT, PHASE, SAID, PASSES, WORDS };
+enum { READY, AWAITING_COST, AWAITING_DERIVATIVES };
+enum { STARTED, PROPOSED, ACCEPTED, REJECTED, TAKEN, DONE, SAYINGS };
+static const char *const sayings[SAYINGS] = { "started", "proposed", "accepted", "rejected", "taken", "done" };
+
+/* A session with all that its calls are lent, n up to 2. Every member is a word: two stations are compared word by word. */
+typedef union { double x; word w; } cell;
+struct station {
+    word words[WORDS];
+    cell numbers[10], point[2], gradient[2], hessian[4], step[2], trial[2], new_gradient[2], new_hessian[4], scratch[24];
+};
+static struct station now, was;
+#define CELLS (sizeof now / sizeof(word))
+
+/* Where the two kinds keep what may be a NaN, and the radius, which stands before the cost. */
+struct kind { const char *name; int radius, promise, norm, ratio, numbers; };
+static const struct kind trustregion = { "TrustRegion", 4, 6, 7, 8, 9 }, sr1 = { "SR1TrustRegion", 5, 7, 8, 9, 10 };
+
+static word calls, said[2][SAYINGS], refused[2][9], promises[2], ratios[2];
+
+/* ---- what a call left */
+
+static word *cells(struct station *s) { return (word *)s; }
+
+/* A refusal leaves every bit; from 6 on the scratch that was lent is +0. */
+static void see_refused(const struct kind *k, word refusal, word room) {
+    refused[k == &sr1][refusal]++;
+    if (refusal > 5)
+        for (word i = 0; i < room; i++) was.scratch[i].w = 0;
+    for (word i = 0; i < CELLS; i++)
+        if (cells(&now)[i] != cells(&was)[i]) see(k->name, refusal, cells(&now)[i], cells(&was)[i]);
+}
+
+/* The model value or P, and the ratio, may be the one NaN; no other number may be a NaN, and none that is written to a list. */
+static void see_taken(const struct kind *k) {
+    for (int i = 0; i < k->numbers; i++)
+        if (nan_bits(now.numbers[i].w)) see(k->name, i, now.numbers[i].w, i == k->promise || i == k->ratio ? ONE_NAN : 0);
+    for (word i = WORDS + 10; i < CELLS; i++)
+        if (nan_bits(cells(&now)[i]) && cells(&now)[i] != cells(&was)[i]) see(k->name, i, cells(&now)[i], cells(&was)[i]);
+    said[k == &sr1][now.words[SAID]]++;
+    promises[k == &sr1] += nan_bits(now.numbers[k->promise].w);
+    ratios[k == &sr1] += nan_bits(now.numbers[k->ratio].w);
+}
+
+static word looked(const struct kind *k, word room, word refusal) {
+    calls++;
+    if (refusal) see_refused(k, refusal, room);
+    else see_taken(k);
+    return refusal;
+}
+
+/* ---- the calls, on the station */
+
+static word room(word n) { return 2 * n * n + 8 * n; }
+
+static word started(const struct kind *k) {
+    was = now;
+    return looked(k, 0, k == &sr1 ? mboyaxin_sr1_start(now.words, &now.numbers[0].x) : mboyaxin_trustregion_start(now.words, &now.numbers[0].x));
+}
+
+static word proposed(const struct kind *k, word n) {
+    was = now;
+    return looked(k, room(n), (k == &sr1 ? mboyaxin_sr1_propose : mboyaxin_trustregion_propose)(now.words, &now.numbers[0].x, n, &now.point[0].x, n,
+        &now.gradient[0].x, n, &now.hessian[0].x, n * n, &now.step[0].x, n, &now.trial[0].x, n, &now.scratch[0].x, room(n)));
+}
+
+static word answered(const struct kind *k, word n, double cost) {
+    was = now;
+    return looked(k, k == &sr1 ? room(n) : 0, k == &sr1
+        ? mboyaxin_sr1_answer(now.words, &now.numbers[0].x, n, cost, &now.new_gradient[0].x, n, &now.point[0].x, n, &now.step[0].x, n,
+              &now.trial[0].x, n, &now.gradient[0].x, n, &now.hessian[0].x, n * n, &now.scratch[0].x, room(n))
+        : mboyaxin_trustregion_answer_cost(now.words, &now.numbers[0].x, n, cost, &now.point[0].x, n, &now.trial[0].x, n));
+}
+
+static word renewed(word n) {
+    was = now;
+    return looked(&trustregion, 0, mboyaxin_trustregion_answer_derivatives(now.words, &now.numbers[0].x, n, &now.new_gradient[0].x, n,
+        &now.new_hessian[0].x, n * n, &now.gradient[0].x, n, &now.hessian[0].x, n * n));
+}
+
+/* ---- stations */
+
+/* Good settings, and NaN in every list: what a call does not write must keep these bits. */
+static void station(const struct kind *k, word kernel, word phase) {
+    static const double settings[2][5] = { { 1.0, 100.0, 0.125, 1e-9, 0.0 }, { 1.0, 0.5e-3, 1e-8, 0.0, 1e-9 } };
+    now = (struct station){ .words = { kernel, 5, phase, 0, 0 } };
+    for (int i = 0; i < 5; i++) now.numbers[i].x = settings[k == &sr1][i];
+    for (word i = WORDS + 10; i < CELLS; i++) cells(&now)[i] = sources[i % 4] + i;
+}
+
+/* The k-th list of so many numbers out of some. */
+static void fill(cell *v, int length, word k, const double *from, word count) {
+    for (int i = 0; i < length; i++, k /= count) v[i].x = from[k % count];
+}
+
+static word power(word base, int times) { return times ? base * power(base, times - 1) : 1; }
+
+/* ---- proposals that make a NaN, and every answer to them */
+
+static const double top = 0x1.fffffffffffffp1023, least = 0x1p-1074;
+
+static void see_answers(const struct kind *k, word n) {
+    static const double gradients[] = { 0.0, 1.0, -0x1.fffffffffffffp1023 };
+    struct station proposal = now;
+    for (int i = 0; i < SOURCES; i++)
+        for (int j = 0; j < (k == &sr1 ? 3 : 1); j++) {
+            now = proposal;
+            for (word m = 0; m < n; m++) now.new_gradient[m].x = gradients[j];
+            answered(k, n, number(sources[i]));
+        }
+}
+
+static void see_proposals(const struct kind *k, word n, const double *from, word count, const double *radii, const double *costs, word few) {
+    for (word kernel = 1; kernel <= 3; kernel++)
+        for (word g = 0; g < power(count, n); g++)
+            for (word h = 0; h < power(count, n * n); h++)
+                for (word i = 0; i < few * few; i++) {
+                    station(k, kernel, READY);
+                    fill(now.gradient, n, g, from, count);
+                    fill(now.hessian, n * n, h, from, count);
+                    for (word m = 0; m < n; m++) now.point[m].x = g % 2 ? 1.0 : 0.0;
+                    if (k == &sr1 && h % 2) now.numbers[3].x = 1e-3; /* tol_grad: a session that is done */
+                    now.numbers[k->radius].x = radii[i / few];
+                    now.numbers[k->radius + 1].x = costs[i % few];
+                    if (proposed(k, n) == 0 && now.words[SAID] == PROPOSED) see_answers(k, n);
+                }
+}
+
+static void see_all_proposals(const struct kind *k) {
+    const double many[12] = { 0.0, -0.0, 1.0, -1.0, top, -top, least, -0x1p-1022, 1e154, -1e154, 1e200, -1e-200 };
+    const double some[6] = { 0.0, 1.0, -1.0, -1e154, 1e200, top }, radii[3] = { 1.0, 1e154, top }, costs[3] = { 0.0, -top, top };
+    see_proposals(k, 1, many, 12, many, many, 12);
+    see_proposals(k, 2, some, 6, radii, costs, 3);
+}
+
+/* ---- what comes from outside */
+
+/* A phase that a caller made up, any cost before it and any answer. */
+static void see_phases(const struct kind *k) {
+    for (word i = 0; i < power(SOURCES, 5); i++) {
+        word at = i;
+        station(k, 1, AWAITING_COST);
+        for (int j = 0; j < 4; j++, at /= SOURCES) now.numbers[k->radius + j].w = sources[at % SOURCES];
+        now.step[0].x = now.trial[0].x = now.gradient[0].x = now.hessian[0].x = 1.0;
+        now.new_gradient[0].x = 3.0;
+        answered(k, 1, number(sources[at]));
+    }
+}
+
+/* Settings and cost of a start. */
+static void see_starts(const struct kind *k) {
+    for (word i = 0; i < power(SOURCES, 5); i++) {
+        word at = i;
+        station(k, 1, READY);
+        for (int j = 0; j < 4; j++, at /= SOURCES) {
+            now.numbers[j].w = sources[at % SOURCES];
+            if (k == &sr1 ? j == 1 || j == 2 : j == 2) now.numbers[j].x /= 128.0;
+        }
+        now.numbers[k->radius + 1].w = sources[at];
+        started(k);
+    }
+}
+
+/* SR1's answer over every step, gradient, Hessian, new gradient and trial; and the Hessian's update at n = 2. */
+static void see_updates(void) {
+    const double some[4] = { 1.0, -1e154, top, 1e-200 }, costs[3] = { 1.0, -1.0, number(0xfff8000000000001) };
+    for (word i = 0; i < 3 * power(SOURCES, 5); i++) {
+        word at = i / 3;
+        cell *lists[4] = { now.step, now.gradient, now.hessian, now.new_gradient };
+        station(&sr1, 1, AWAITING_COST);
+        for (int j = 0; j < 4; j++, at /= SOURCES) lists[j][0].w = sources[at % SOURCES];
+        now.trial[0].w = sources[at];
+        now.numbers[sr1.radius].x = now.numbers[sr1.promise].x = now.numbers[sr1.norm].x = 1.0;
+        answered(&sr1, 1, costs[i % 3]);
+    }
+    for (word i = 0; i < power(4, 10); i++) {
+        station(&sr1, 1, AWAITING_COST);
+        fill(now.step, 2, i, some, 4);
+        fill(now.gradient, 2, i >> 4, some, 4);
+        fill(now.hessian, 4, i >> 8, some, 4);
+        fill(now.new_gradient, 2, i >> 16, some, 4);
+        now.trial[0].x = now.trial[1].x = 1.0;
+        now.numbers[sr1.radius].x = now.numbers[sr1.promise].x = now.numbers[sr1.norm].x = 1.0;
+        answered(&sr1, 2, -1.0);
+    }
+}
+
+/* TrustRegion's derivatives. */
+static void see_renewals(void) {
+    for (word i = 0; i < power(SOURCES, 2); i++) {
+        station(&trustregion, 1, AWAITING_DERIVATIVES);
+        now.numbers[trustregion.radius].x = 1.0;
+        now.new_gradient[0].w = sources[i % SOURCES];
+        now.new_hessian[0].w = sources[i / SOURCES];
+        renewed(1);
+    }
+}
+
+/* Calls out of turn, phases and kernels that are none, wrong n; NaN in every list. */
+static void see_out_of_turn(const struct kind *k) {
+    static const word phases[] = { 0, 1, 2, 3, 1UL << 63 }, sizes[] = { 0, 1, 2 };
+    for (word kernel = 0; kernel < 5; kernel++)
+        for (int phase = 0; phase < 5; phase++)
+            for (int size = 0; size < 3; size++)
+                for (int call = 0; call < 3; call++) {
+                    station(k, kernel, phases[phase]);
+                    now.numbers[k->radius].x = now.numbers[k->radius + 1].x = 1.0;
+                    now.numbers[k->promise].w = 0xfff8000000000001;
+                    now.numbers[k->norm].w = 0x7ff0000000000002;
+                    if (call == 0) proposed(k, sizes[size]);
+                    else if (call == 1) answered(k, sizes[size], number(0xfff8000000000003));
+                    else if (k == &trustregion) renewed(sizes[size]);
+                }
+}
+
+void see_sessions(void) {
+    const struct kind *const kinds[2] = { &trustregion, &sr1 };
+    for (int i = 0; i < 2; i++) {
+        see_all_proposals(kinds[i]);
+        see_phases(kinds[i]);
+        see_starts(kinds[i]);
+        see_out_of_turn(kinds[i]);
+    }
+    see_updates();
+    see_renewals();
+    printf("sessions: %lu calls\n", calls);
+    for (int i = 0; i < 2; i++) {
+        printf("%s: %lu NaN %s, %lu NaN ratios; ", kinds[i]->name, promises[i], i ? "predicted falls" : "model values", ratios[i]);
+        for (int j = 0; j < SAYINGS; j++) printf("%s %lu, ", sayings[j], said[i][j]);
+        for (int j = 1; j < 9; j++) printf(j < 8 ? "refused %d %lu, " : "refused %d %lu\n", j, refused[i][j]);
+    }
+}
