@@ -18,7 +18,7 @@ use Rattle.vectors.specs.Vector.{dot, norm, times, weighted, scale, zeros}
 use Rattle.kernels.specs.Workspace.{each}
 use Rattle.vectors.specs.Refusal.{Answer, refused, given, then, number}
 use Rattle.vectors.specs.Calls.{tells}
-use Rattle.kernels.specs.Kernel.{Made, made, handed-out, Proper, stepped, Laid}
+use Rattle.kernels.specs.Kernel.{Made, made, handed-out, Proper, Laid}
 use Rattle.kernels.specs.Steihaug.{roots, roots-at, listed, ahead, model, valued, lesser, any-nan, by-model, larger, largest-from, forward, State, Pass, stops, goes-on, after, stops-at, curved, crossing, onward, straight, pass, run, steihaug, start, state-in, Keeps}
 use Rattle.kernels.specs.declared.kernel.Stepped.{Stepped}
 use Rattle.vectors.specs.declared.refusal.Refusal.{Refusal}
@@ -329,28 +329,23 @@ steihaug-proper epsilon limit n radius g H =
 
 -- ---- the kernel, where w holds the start
 
-module _ (epsilon : Float) (limit n : ℕ) (radius : Float) (g H w : List Float) (norm-g rtr : Float) (e : norm-g ≡ norm g) (s : state-in w n rtr ≡ start n g) (w₀ : List Float) (l : length w ≡ length w₀) where
+module _ (epsilon : Float) (limit n : ℕ) (radius : Float) (g H w : List Float) (norm-g rtr : Float) (e : norm-g ≡ norm g) (s : state-in w n rtr ≡ start n g) where
   abbrev whole : Answer Made
   whole = steihaug epsilon limit n radius g H
 
-  pub at-once : (r : Stepped) (w′ : List Float) → lt norm-g epsilon ≡ true → Laid (handed-out (made 0 (slot w n 0))) r w w′ → Laid whole r w₀ w′
+  pub at-once : (w₀ : List Float) → length w ≡ length w₀ → (r : Stepped) (w′ : List Float) → lt norm-g epsilon ≡ true → Laid (handed-out (made 0 (slot w n 0))) r w w′ → Laid whole r w₀ w′
   unfolding steihaug start
-  at-once r w′ t h =
+  at-once w₀ l r w′ t h =
       laid-same n (handed-out (made 0 (slot w n 0))) whole r w w₀ w′ (steihaug-proper epsilon limit n radius g H)
       (rw (← e, t) (ap (λ (st : State). handed-out (made 0 (st .p))) s)) l h
 
-  module _ (o : Answer Made) (w′ : List Float) (t : lt norm-g epsilon ≡ false) (f : o ≡ run n radius (epsilon ⊗ norm-g) g H limit 0 (state-in w n rtr)) where
+  module _ (o : Answer Made) (t : lt norm-g epsilon ≡ false) (f : o ≡ run n radius (epsilon ⊗ norm-g) g H limit 0 (state-in w n rtr)) where
     is-whole : then handed-out o ≡ whole
     unfolding steihaug
     is-whole = rw (← e, t, ← s) (ap (then handed-out) f)
 
-    pub in-passes : (w₁ : List Float) (r : Stepped) (k s : ℕ) → length w₁ ≡ length w → o ≡ given (made k (slot w₁ n s)) → Laid (handed-out (made k (slot w₁ n s))) r w₁ w′
-        → Laid whole r w₀ w′
-    in-passes w₁ r k s m i h =
-        laid-same n (handed-out (made k (slot w₁ n s))) whole r w₁ w₀ w′ (steihaug-proper epsilon limit n radius g H) (rw i at is-whole) (m ∙ l) h
+    pub passes-proper : Proper n (then handed-out o)
+    passes-proper = subst (Proper n) (sym is-whole) (steihaug-proper epsilon limit n radius g H)
 
-    pub without-root : (len : ℕ) (k : Refusal) → len ≡ length w → o ≡ refused k → w′ ≡ zeros len → Laid whole (stepped (refused k)) w₀ w′
-    without-root len k m i z =
-        let same : refused k ≡ whole = rw i at is-whole in
-        let late : leb (number k) 5 ≡ false = subst (Proper n) (sym same) (steihaug-proper epsilon limit n radius g H) in
-        rw (← same) (record { says = refl; lays = z ∙ ap zeros (m ∙ l) ∙ rw late })
+    pub in-passes : (w₀ w₁ w′ : List Float) (r : Stepped) → length w ≡ length w₀ → length w₁ ≡ length w → Laid (then handed-out o) r w₁ w′ → Laid whole r w₀ w′
+    in-passes w₀ w₁ w′ r l m h = laid-same n (then handed-out o) whole r w₁ w₀ w′ (steihaug-proper epsilon limit n radius g H) is-whole (m ∙ l) h

@@ -18,9 +18,9 @@ ghost use Prim.Native.Nat.{_*_, _≤_};
 ghost use lib.ListN.{length};
 ghost use Rattle.float.specs.Numbers.{finite};
 ghost use Rattle.vectors.specs.Slots.{slot};
-ghost use Rattle.vectors.specs.Refusal.{Square, Roomy};
+ghost use Rattle.vectors.specs.Refusal.{Square, Roomy, then};
 ghost use Rattle.vectors.specs.Calls.{tells};
-ghost use Rattle.kernels.specs.Kernel.{bounded, Laid, Took, called};
+ghost use Rattle.kernels.specs.Kernel.{bounded, handed-out, Proper, Laid, Took, called};
 ghost use Rattle.kernels.specs.Steihaug as Steihaug;
 ghost use Rattle.kernels.specs.Steihaug.{listed, state-in, Keeps, passed, ran};
 
@@ -305,6 +305,22 @@ fn start(n: usize, w: &mut [f64], g: &[f64]) -> f64
     vector::dot_any(g, g)
 }
 
+// The point at which the passes ended is the step.
+fn settle(n: usize, w: &mut [f64], end: Exit) -> Stepped
+    requires { ⌜ (8 * n ≤ length (now w)) × Proper n (then handed-out (ran end n (now w))) ⌝ }
+    ensures { λ r. ⌜ Laid (then handed-out (ran end n (now (w .entry)))) r (now (w .entry)) (now (w .exit)) ⌝ }
+{
+    match end {
+        Exit::Limit(passes) => kernel::settle(n, w, 0, passes),
+        Exit::Boundary(passes) => kernel::settle(n, w, 6, passes),
+        Exit::Inside(passes) => kernel::settle(n, w, 6, passes),
+        Exit::Refused(r) => {
+            vector::clear(w);
+            Stepped::Refused(r)
+        }
+    }
+}
+
 // The kernel for a session, which has made its own checks.
 pub(crate) fn lay(
     n: usize,
@@ -324,15 +340,7 @@ pub(crate) fn lay(
         return kernel::settle(n, w, 0, 0);
     }
     let end = run(n, w, radius, epsilon * norm, rtr, limit, g, h);
-    match end {
-        Exit::Limit(passes) => kernel::settle(n, w, 0, passes),
-        Exit::Boundary(passes) => kernel::settle(n, w, 6, passes),
-        Exit::Inside(passes) => kernel::settle(n, w, 6, passes),
-        Exit::Refused(r) => {
-            vector::clear(w);
-            Stepped::Refused(r)
-        }
-    }
+    settle(n, w, end)
 }
 
 // The kernel for a direct caller.
