@@ -69,7 +69,7 @@ fn held(room: &[u8], input: Input) -> Word
 }
 
 // The next word as a number.
-pub fn next_number(room: &mut [u8], input: Input) -> Number
+fn next_number(room: &mut [u8], input: Input) -> Number
     ensures { λ r. ⌜ NextNumber (now (room .entry)) input (now (room .exit)) r ⌝ }
 {
     let word = next_word(room, input);

@@ -7,7 +7,6 @@ mod output;
 pub use input::Filled;
 pub use input::Input;
 pub use input::Word;
-pub use input::next_number;
 pub use input::next_word;
 pub use input::numbers;
 pub use input::start;

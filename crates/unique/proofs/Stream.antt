@@ -1,5 +1,5 @@
 -- crates/stream: each contract has one result; those of what reads the room, while the room has what is asked for. Assumes nothing.
-use mathlib.Core.Path.{_≡_, refl, sym, _∙_, ap, subst}
+use mathlib.Core.Path.{_≡_, refl, subst}
 use mathlib.Core.Logic.{_⊎_, inl, inr}
 use mathlib.Core.Bool.{true}
 use mathlib.Core.List.{List, [], _∷_}
@@ -12,10 +12,9 @@ use lib.Ieee.{Float}
 use denote.Ref.{now}
 use Rattle.io.specs.Digits.{digits, Fewest}
 use Rattle.stream.specs.Output.{Put, PutWhole}
-use Rattle.stream.specs.Input.{Next, next-by, NextNumber, number-of, Fills}
+use Rattle.stream.specs.Input.{Next, next-by, Fills}
 use Rattle.stream.specs.declared.input.Input.{Input}
 use Rattle.stream.specs.declared.input.Word.{Word}
-use Rattle.stream.specs.declared.input.Number.{Number}
 use Rattle.stream.specs.declared.input.Filled.{Filled}
 use Rattle.unique.proofs.Law.{Line, unique, UniqueIn, unique-in, alike, _&_}
 use Rattle.stream.proofs as stream
@@ -57,14 +56,8 @@ module _ (room room₁ room₂ : List ℕ) (i : Input) where
   unfolding Next next-by
   next w₁ w₂ e p q = let a = rw e at p in let b = rw e at q in (alike (a .found) (b .found), alike (a .kept) (b .kept))
 
-  next-as-number : {x₁ x₂ : Number} → ltb (i .at) (i .end) ≡ true → NextNumber room i room₁ x₁ → NextNumber room i room₂ x₂ → (x₁ ≡ x₂) × (room₁ ≡ room₂)
-  next-as-number e p q = let d = next (p .word) (q .word) e (p .next) (q .next) in (p .number ∙ ap number-of (d .0) ∙ sym (q .number), d .1)
-
 pub next-word : UniqueIn stream.«next_word».ended (λ κs a r r₂ s s₂. ltb (a .1 .0 .at) (a .1 .0 .end) ≡ true → (r ≡ r₂) × (s ≡ s₂)) (λ M. stream.«next_word».spec)
 next-word = unique-in (λ w κs a g r. refl) (λ κs a r r₂ s s₂ p q e. let d = next _ _ _ _ r r₂ e p q in (d .0, λ i. d .1 i & tt & tt))
-
-pub next-number : UniqueIn stream.«next_number».ended (λ κs a r r₂ s s₂. ltb (a .1 .0 .at) (a .1 .0 .end) ≡ true → (r ≡ r₂) × (s ≡ s₂)) (λ M. stream.«next_number».spec)
-next-number = unique-in (λ w κs a g r. refl) (λ κs a r r₂ s s₂ p q e. let d = next-as-number _ _ _ _ e p q in (d .0, λ i. d .1 i & tt & tt))
 
 -- also where there is no place to put them
 abbrev At-hand : Input → List Float → ℕ → Type 0
