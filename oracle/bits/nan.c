@@ -1,22 +1,11 @@
 /* Reads from outside the bits of what the Rattle functions hand out. To the proofs all NaN are one, so only a run can see
-   whether 7ff8000000000000 is the one that leaves. There are no headers where this is compiled: what is called is declared. */
+   whether 7ff8000000000000 is the one that leaves. */
 
+#include "mboyaxin.h"
 #include "see.h"
 
 double one_nan(double), magnitude(double), smaller(double, double), float_of(word), root(double);
 word bits_of(double);
-
-/* crates/foreign; a slice is a pointer and a length */
-double mboyaxin_reduction_ratio(double, double, double, double);
-double mboyaxin_dot(word n, const double *a, word al, const double *b, word bl);
-double mboyaxin_dot_any(const double *a, word al, const double *b, word bl);
-double mboyaxin_norm(word n, const double *a, word al);
-double mboyaxin_norm_any(const double *a, word al);
-double mboyaxin_weighted_dot(word n, const double *a, word al, const double *h, word hl, const double *b, word bl);
-word mboyaxin_product(word n, const double *h, word hl, const double *d, word dl, double *out, word ol);
-word mboyaxin_inverse(word n, const double *h, word hl, double *out, word ol, double *scratch, word sl);
-typedef word kernel(word n, double radius, double epsilon, word limit, const double *gradient, word gl, const double *hessian, word hl, double *step, word sl, double *scratch, word wl);
-kernel mboyaxin_cauchy_point, mboyaxin_dogleg, mboyaxin_steihaug;
 
 word patterns, wrong;
 
@@ -106,7 +95,7 @@ static void see_matrix(const double *h, word n) {
 }
 
 /* A kernel hands out no NaN at all. */
-static void see_kernel(const char *name, kernel *k) {
+static void see_kernel(const char *name, mboyaxin_kernel *k) {
     double v[3];
     for (word i = 0; i < 2 * SOURCES * SOURCES * SOURCES; i++) {
         word n = 1 + i % 2;

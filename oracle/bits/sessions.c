@@ -1,30 +1,16 @@
 /* Reads from outside the bits of what the sessions hand out and keep, and of what a refused call leaves: crates/foreign_sessions,
    over every call of both kinds. */
 
+#include "mboyaxin.h"
 #include "see.h"
 
-/* A session is five words and nine numbers, for SR1 ten; a slice is a pointer and a length. */
-word mboyaxin_trustregion_start(word *words, double *numbers);
-word mboyaxin_trustregion_propose(word *words, double *numbers, word n, const double *point, word pl, const double *gradient, word gl,
-    const double *hessian, word hl, double *step, word sl, double *trial, word tl, double *scratch, word wl);
-word mboyaxin_trustregion_answer_cost(word *words, double *numbers, word n, double cost, double *point, word pl, const double *trial, word tl);
-word mboyaxin_trustregion_answer_derivatives(word *words, double *numbers, word n, const double *new_gradient, word ngl,
-    const double *new_hessian, word nhl, double *gradient, word gl, double *hessian, word hl);
-word mboyaxin_sr1_start(word *words, double *numbers);
-word mboyaxin_sr1_propose(word *words, double *numbers, word n, const double *point, word pl, const double *gradient, word gl,
-    const double *hessian, word hl, double *step, word sl, double *trial, word tl, double *scratch, word wl);
-word mboyaxin_sr1_answer(word *words, double *numbers, word n, double cost, const double *new_gradient, word ngl, double *point, word pl,
-    const double *step, word sl, const double *trial, word tl, double *gradient, word gl, double *hessian, word hl, double *scratch, word wl);
-
-enum { KERNEL, LIMIT, PHASE, SAID, PASSES, WORDS };
-enum { READY, AWAITING_COST, AWAITING_DERIVATIVES };
-enum { STARTED, PROPOSED, ACCEPTED, REJECTED, TAKEN, DONE, SAYINGS };
+enum { SAYINGS = MBOYAXIN_DONE + 1 };
 static const char *const sayings[SAYINGS] = { "started", "proposed", "accepted", "rejected", "taken", "done" };
 
 /* A session with all that its calls are lent, n up to 2. Every member is a word: two stations are compared word by word. */
 typedef union { double x; word w; } cell;
 struct station {
-    word words[WORDS];
+    word words[MBOYAXIN_WORDS];
     cell numbers[10], point[2], gradient[2], hessian[4], step[2], trial[2], new_gradient[2], new_hessian[4], scratch[24];
 };
 static struct station now, was;
@@ -32,7 +18,8 @@ static struct station now, was;
 
 /* Where the two kinds keep what may be a NaN, and the radius, which stands before the cost. */
 struct kind { const char *name; int radius, promise, norm, ratio, numbers; };
-static const struct kind trustregion = { "TrustRegion", 4, 6, 7, 8, 9 }, sr1 = { "SR1TrustRegion", 5, 7, 8, 9, 10 };
+static const struct kind trustregion = { "TrustRegion", MBOYAXIN_TR_RADIUS, MBOYAXIN_TR_MODEL, MBOYAXIN_TR_NORM, MBOYAXIN_TR_RATIO, MBOYAXIN_TR_NUMBERS },
+                         sr1 = { "SR1TrustRegion", MBOYAXIN_SR1_RADIUS, MBOYAXIN_SR1_PREDICTED, MBOYAXIN_SR1_NORM, MBOYAXIN_SR1_RATIO, MBOYAXIN_SR1_NUMBERS };
 
 static word calls, said[2][SAYINGS], refused[2][9], promises[2], ratios[2];
 
@@ -53,9 +40,9 @@ static void see_refused(const struct kind *k, word refusal, word room) {
 static void see_taken(const struct kind *k) {
     for (int i = 0; i < k->numbers; i++)
         if (nan_bits(now.numbers[i].w)) see(k->name, i, now.numbers[i].w, i == k->promise || i == k->ratio ? ONE_NAN : 0);
-    for (word i = WORDS + 10; i < CELLS; i++)
+    for (word i = MBOYAXIN_WORDS + 10; i < CELLS; i++)
         if (nan_bits(cells(&now)[i]) && cells(&now)[i] != cells(&was)[i]) see(k->name, i, cells(&now)[i], cells(&was)[i]);
-    said[k == &sr1][now.words[SAID]]++;
+    said[k == &sr1][now.words[MBOYAXIN_SAID]]++;
     promises[k == &sr1] += nan_bits(now.numbers[k->promise].w);
     ratios[k == &sr1] += nan_bits(now.numbers[k->ratio].w);
 }
@@ -103,7 +90,7 @@ static void station(const struct kind *k, word kernel, word phase) {
     static const double settings[2][5] = { { 1.0, 100.0, 0.125, 1e-9, 0.0 }, { 1.0, 0.5e-3, 1e-8, 0.0, 1e-9 } };
     now = (struct station){ .words = { kernel, 5, phase, 0, 0 } };
     for (int i = 0; i < 5; i++) now.numbers[i].x = settings[k == &sr1][i];
-    for (word i = WORDS + 10; i < CELLS; i++) cells(&now)[i] = sources[i % 4] + i;
+    for (word i = MBOYAXIN_WORDS + 10; i < CELLS; i++) cells(&now)[i] = sources[i % 4] + i;
 }
 
 /* The k-th list of so many numbers out of some. */
@@ -133,14 +120,14 @@ static void see_proposals(const struct kind *k, word n, const double *from, word
         for (word g = 0; g < power(count, n); g++)
             for (word h = 0; h < power(count, n * n); h++)
                 for (word i = 0; i < few * few; i++) {
-                    station(k, kernel, READY);
+                    station(k, kernel, MBOYAXIN_READY);
                     fill(now.gradient, n, g, from, count);
                     fill(now.hessian, n * n, h, from, count);
                     for (word m = 0; m < n; m++) now.point[m].x = g % 2 ? 1.0 : 0.0;
-                    if (k == &sr1 && h % 2) now.numbers[3].x = 1e-3; /* tol_grad: a session that is done */
+                    if (k == &sr1 && h % 2) now.numbers[MBOYAXIN_SR1_SET_TOL_GRAD].x = 1e-3; /* a session that is done */
                     now.numbers[k->radius].x = radii[i / few];
                     now.numbers[k->radius + 1].x = costs[i % few];
-                    if (proposed(k, n) == 0 && now.words[SAID] == PROPOSED) see_answers(k, n);
+                    if (proposed(k, n) == 0 && now.words[MBOYAXIN_SAID] == MBOYAXIN_PROPOSED) see_answers(k, n);
                 }
 }
 
@@ -157,7 +144,7 @@ static void see_all_proposals(const struct kind *k) {
 static void see_phases(const struct kind *k) {
     for (word i = 0; i < power(SOURCES, 5); i++) {
         word at = i;
-        station(k, 1, AWAITING_COST);
+        station(k, 1, MBOYAXIN_AWAITING_COST);
         for (int j = 0; j < 4; j++, at /= SOURCES) now.numbers[k->radius + j].w = sources[at % SOURCES];
         now.step[0].x = now.trial[0].x = now.gradient[0].x = now.hessian[0].x = 1.0;
         now.new_gradient[0].x = 3.0;
@@ -169,7 +156,7 @@ static void see_phases(const struct kind *k) {
 static void see_starts(const struct kind *k) {
     for (word i = 0; i < power(SOURCES, 5); i++) {
         word at = i;
-        station(k, 1, READY);
+        station(k, 1, MBOYAXIN_READY);
         for (int j = 0; j < 4; j++, at /= SOURCES) {
             now.numbers[j].w = sources[at % SOURCES];
             if (k == &sr1 ? j == 1 || j == 2 : j == 2) now.numbers[j].x /= 128.0;
@@ -185,14 +172,14 @@ static void see_updates(void) {
     for (word i = 0; i < 3 * power(SOURCES, 5); i++) {
         word at = i / 3;
         cell *lists[4] = { now.step, now.gradient, now.hessian, now.new_gradient };
-        station(&sr1, 1, AWAITING_COST);
+        station(&sr1, 1, MBOYAXIN_AWAITING_COST);
         for (int j = 0; j < 4; j++, at /= SOURCES) lists[j][0].w = sources[at % SOURCES];
         now.trial[0].w = sources[at];
         now.numbers[sr1.radius].x = now.numbers[sr1.promise].x = now.numbers[sr1.norm].x = 1.0;
         answered(&sr1, 1, costs[i % 3]);
     }
     for (word i = 0; i < power(4, 10); i++) {
-        station(&sr1, 1, AWAITING_COST);
+        station(&sr1, 1, MBOYAXIN_AWAITING_COST);
         fill(now.step, 2, i, some, 4);
         fill(now.gradient, 2, i >> 4, some, 4);
         fill(now.hessian, 4, i >> 8, some, 4);
@@ -206,7 +193,7 @@ static void see_updates(void) {
 /* TrustRegion's derivatives. */
 static void see_renewals(void) {
     for (word i = 0; i < power(SOURCES, 2); i++) {
-        station(&trustregion, 1, AWAITING_DERIVATIVES);
+        station(&trustregion, 1, MBOYAXIN_AWAITING_DERIVATIVES);
         now.numbers[trustregion.radius].x = 1.0;
         now.new_gradient[0].w = sources[i % SOURCES];
         now.new_hessian[0].w = sources[i / SOURCES];
