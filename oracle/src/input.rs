@@ -1,4 +1,4 @@
-//! The words of an input for program `leaves`: 8 bytes each, little-endian. Numbers are kept by
+//! The words of an input: 8 bytes each, little-endian. Numbers are kept by
 //! their bits, so that every NaN arrives as it was meant.
 
 /// The longest list that is read.
@@ -49,5 +49,20 @@ impl Call {
 pub fn words(bytes: &mut Vec<u8>, words: &[u64]) {
     for word in words {
         bytes.extend(word.to_le_bytes());
+    }
+}
+
+/// What is left of an input. Each reading gives nothing where it ends too early.
+pub(crate) struct Reader<'a>(pub(crate) &'a [u8]);
+
+impl Reader<'_> {
+    pub(crate) fn word(&mut self) -> Option<u64> {
+        let (word, rest) = self.0.split_first_chunk()?;
+        self.0 = rest;
+        Some(u64::from_le_bytes(*word))
+    }
+
+    pub(crate) fn number(&mut self) -> Option<f64> {
+        self.word().map(f64::from_bits)
     }
 }

@@ -1,6 +1,6 @@
 //! Program `leaves`, answered independently: the calls of the leaf functions, a line for each.
 
-use crate::input::{LONGEST_LENT, LONGEST_LIST};
+use crate::input::{Reader, LONGEST_LENT, LONGEST_LIST};
 use crate::tally::{Tally, ANSWERS};
 use crate::vector::{root, Matrix, Vector};
 use std::io::{self, Write};
@@ -74,23 +74,10 @@ pub fn one_nan(x: f64) -> u64 {
     }
 }
 
-/// What is left of the input. Each reading gives nothing where the input is bad.
-struct Reader<'a>(&'a [u8]);
-
 // A size keeps all 64 digits of its word: 2^32 + 1 must not be taken for 1.
 const _: () = assert!(usize::BITS == 64);
 
 impl Reader<'_> {
-    fn word(&mut self) -> Option<u64> {
-        let (word, rest) = self.0.split_first_chunk()?;
-        self.0 = rest;
-        Some(u64::from_le_bytes(*word))
-    }
-
-    fn number(&mut self) -> Option<f64> {
-        self.word().map(f64::from_bits)
-    }
-
     /// A size, a length or a row number.
     fn whole(&mut self) -> Option<usize> {
         self.word().map(|word| word as usize)

@@ -1,5 +1,6 @@
 //! Program `replay`: a session's start and its calls in a file, a line or more for each.
 
+use crate::input::Reader;
 use crate::leaves::one_nan;
 use crate::session::{Engine, Kind, Phase, Proposal, Settings, Station};
 use crate::step::LARGEST_SIZE;
@@ -98,20 +99,7 @@ fn numbers(out: &mut impl Write, name: &str, list: &[f64]) -> io::Result<()> {
     writeln!(out)
 }
 
-/// What is left of the input. Each reading gives nothing where it ends too early.
-pub(crate) struct Reader<'a>(pub(crate) &'a [u8]);
-
 impl Reader<'_> {
-    fn word(&mut self) -> Option<u64> {
-        let (word, rest) = self.0.split_first_chunk()?;
-        self.0 = rest;
-        Some(u64::from_le_bytes(*word))
-    }
-
-    fn number(&mut self) -> Option<f64> {
-        self.word().map(f64::from_bits)
-    }
-
     fn vector(&mut self, n: usize) -> Option<Vector> {
         (0..n)
             .map(|_| self.number())

@@ -13,10 +13,19 @@ use std::io::{self, Write};
 
 /// `count` scripts, of one kind of session if it is told.
 pub fn input(count: u64, seed: u64, kind: Option<u64>) -> Vec<u8> {
+    many(count, seed, |random| script(random, kind))
+}
+
+/// `count` scripts, each after a word with its length in words.
+pub(crate) fn many(
+    count: u64,
+    seed: u64,
+    mut script: impl FnMut(&mut Random) -> Vec<u64>,
+) -> Vec<u8> {
     let mut random = Random::new(seed);
     let mut bytes = Vec::new();
     for _ in 0..count {
-        let script = script(&mut random, kind);
+        let script = script(&mut random);
         words(&mut bytes, &[script.len() as u64]);
         words(&mut bytes, &script);
     }

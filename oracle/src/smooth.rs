@@ -1,22 +1,15 @@
 //! Inputs of program `replays`: fits of smooth functions, trial by trial, each some dozen trials long. The costs and the
 //! derivatives are those of the trial points, and some trials are answered with NaN.
 
-use crate::input::words;
 use crate::random::{with_exponent, Random};
 use crate::replay::{self, Call};
+use crate::scripts::many;
 use crate::session::{Formulas, Kind, Phase, Settings, Station};
 use crate::vector::{Matrix, Vector};
 
 /// `count` scripts of a kind of session.
 pub fn input(count: u64, seed: u64, kind: u64) -> Vec<u8> {
-    let mut random = Random::new(seed);
-    let mut bytes = Vec::new();
-    for _ in 0..count {
-        let script = script(&mut random, kind);
-        words(&mut bytes, &[script.len() as u64]);
-        words(&mut bytes, &script);
-    }
-    bytes
+    many(count, seed, |random| script(random, kind))
 }
 
 /// Half the sum of the squares of a_i·(x_i − c_i) and of b·(x_(i+1) − x_i²): a curved valley.

@@ -1,7 +1,8 @@
 //! The table of program `replay_table`: a script of program `replay` as people read it.
 
 use crate::decimals::text;
-use crate::replay::{call, start, Call, Reader};
+use crate::input::Reader;
+use crate::replay::{call, start, Call};
 use crate::session::{Engine, Phase, Proposal, Station};
 use std::io::{self, Write};
 
