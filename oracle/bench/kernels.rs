@@ -1,6 +1,5 @@
-//! argmin's own kernels, timed, and beside them the Rattle ones where they are linked in (feature
-//! `rattle`; the script bench-kernels links them). Both get the same inputs, in turns; the best
-//! round of each counts.
+//! argmin's own kernels, timed, and beside them the Rattle ones (`crates/foreign`, which the script
+//! bench-argmin links). Both get the same inputs, in turns; the best round of each counts.
 //!
 //! argmin's side is what its `TrustRegion` runs for each step: an executor over the kernel, with
 //! the derivatives cloned, and a fresh vector for every operation. The arithmetic under it is
@@ -23,7 +22,6 @@ const ROUND_SECONDS: f64 = 0.1;
 /// What the linked library exports: a function for each kernel, all of one shape. A slice is a
 /// pointer and a length. Cauchy and Dogleg pass over epsilon and limit. The answer is 0 where the
 /// step was written, else the refusal's number.
-#[cfg_attr(not(feature = "rattle"), allow(dead_code))]
 type Linked = unsafe extern "C" fn(
     n: usize,
     radius: f64,
@@ -40,7 +38,6 @@ type Linked = unsafe extern "C" fn(
 ) -> u64;
 
 /// Declares each name of the library with the shape above.
-#[cfg(feature = "rattle")]
 macro_rules! linked {
     ($($kernel:ident: $name:ident,)*) => {
         unsafe extern "C" {
@@ -53,25 +50,19 @@ macro_rules! linked {
             ) -> u64;)*
         }
 
-        fn linked(kernel: Kernel) -> Option<Linked> {
-            Some(match kernel {
+        fn linked(kernel: Kernel) -> Linked {
+            match kernel {
                 $(Kernel::$kernel => $name,)*
-            })
+            }
         }
     };
 }
 
 // The table of names.
-#[cfg(feature = "rattle")]
 linked! {
     Cauchy: mboyaxin_cauchy_point,
     Dogleg: mboyaxin_dogleg,
     Steihaug: mboyaxin_steihaug,
-}
-
-#[cfg(not(feature = "rattle"))]
-fn linked(_kernel: Kernel) -> Option<Linked> {
-    None
 }
 
 /// Runs a linked kernel on lent vectors and leaves its step in `step`.
@@ -144,14 +135,9 @@ fn seconds(goes: usize, mut go: impl FnMut()) -> f64 {
 
 fn main() -> ExitCode {
     println!("nanoseconds for a call, best of {ROUNDS} rounds over {INPUTS} inputs");
-    let rattle = if cfg!(feature = "rattle") {
-        "Rattle"
-    } else {
-        "(no Rattle library is linked)"
-    };
     println!(
-        "{:9} {:>3} {:>6} {:>10} {rattle:>10}",
-        "", "n", "passes", "argmin"
+        "{:9} {:>3} {:>6} {:>10} {:>10}",
+        "", "n", "passes", "argmin", "Rattle"
     );
     let mut random = Random::new(1);
     let mut differing = 0;
@@ -180,9 +166,9 @@ fn bench(kernel: Kernel, n: usize, calls: &[Call]) -> usize {
     let mut step = vec![0.0; n];
     let mut scratch = vec![0.0; 2 * n * n + 8 * n];
     let linked = linked(kernel);
-    let mut by_rattle = |kernel: Linked| {
+    let mut by_rattle = || {
         for call in calls {
-            let answer = run_linked(black_box(kernel), black_box(call), &mut step, &mut scratch);
+            let answer = run_linked(black_box(linked), black_box(call), &mut step, &mut scratch);
             assert_eq!(answer, 0, "a step");
             black_box(&mut step);
         }
@@ -191,29 +177,20 @@ fn bench(kernel: Kernel, n: usize, calls: &[Call]) -> usize {
     let (mut argmin, mut rattle) = (f64::INFINITY, f64::INFINITY);
     for _ in 0..ROUNDS {
         argmin = argmin.min(seconds(goes, by_argmin));
-        if let Some(kernel) = linked {
-            rattle = rattle.min(seconds(goes, || by_rattle(kernel)));
-        }
+        rattle = rattle.min(seconds(goes, &mut by_rattle));
     }
     let nanoseconds = |seconds: f64| seconds * 1e9 / (goes * calls.len()) as f64;
     let passes: u64 = calls.iter().map(passes).sum();
-    print!(
-        "{:9} {n:3} {:6.1} {:10.0}",
+    println!(
+        "{:9} {n:3} {:6.1} {:10.0} {:10.0}  ratio {:.2}",
         format!("{kernel:?}"),
         passes as f64 / calls.len() as f64,
         nanoseconds(argmin),
-    );
-    let Some(kernel) = linked else {
-        println!();
-        return 0;
-    };
-    println!(
-        " {:10.0}  ratio {:.2}",
         nanoseconds(rattle),
         rattle / argmin
     );
     let differs = |call: &&Call| {
-        run_linked(kernel, call, &mut step, &mut scratch);
+        run_linked(linked, call, &mut step, &mut scratch);
         let (right, _) = argmin_kernels::solve(call).expect("a step");
         let bits = |numbers: &[f64]| numbers.iter().map(|x| x.to_bits()).collect::<Vec<_>>();
         bits(&step) != bits(&right.0)
