@@ -1,1 +1,3 @@
-pub mod Fronts
+pub mod Cases
+pub mod Puts
+pub mod Short

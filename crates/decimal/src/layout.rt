@@ -1,60 +1,35 @@
-// The layout of a number's digits, byte by byte. Each function writes from index `at` on and tells
-// where its text ends.
+// The layout of a number's digits, part by part. Each function writes from index `at` on, where its
+// text has room, and tells where it ends.
 ghost use mathlib.Core.Path.{_≡_};
-ghost use Prim.Native.Nat.{_+_, _<_, _≤_};
+ghost use mathlib.Core.List.{[], _∷_};
+ghost use Prim.Native.Nat.{_+_, _/_, _%_, _^_, _<_, _≤_};
 ghost use lib.ListN.{length};
-use shortest::Found;
+ghost use Rattle.decimal.specs.Put.{Put};
+ghost use Rattle.decimal.specs.Text.{digits, sign, behind, pointed, exponent, scientific, positional, laid, unsigned};
+ghost use Rattle.decimal.specs.Text.{width as Text·width, text as Text·text};
 
-fn put_byte(text: &mut [u8], at: usize, byte: u8) -> usize
-    requires { ⌜ at < length (now text) ⌝ }
-    ensures { λ r. ⌜ r ≡ at + 1 ⌝ }
+fn put_text(text: &mut [u8], at: usize, part: &[u8]) -> usize
+    requires { ⌜ at + length (now part) ≤ length (now text) ⌝ }
+    ensures { λ r. ⌜ Put (now (text .entry)) at (now (part .entry)) (now (text .exit)) r ⌝ }
 {
-    text[at] = byte;
-    at + 1
-}
-
-fn put_word(text: &mut [u8], at: usize, a: u8, b: u8, c: u8) -> usize
-    requires { ⌜ at + 3 ≤ length (now text) ⌝ }
-    ensures { λ r. ⌜ r ≡ at + 3 ⌝ }
-{
-    let first = put_byte(text, at, a);
-    let second = put_byte(text, first, b);
-    put_byte(text, second, c)
+    words::put_text(text, at, part);
+    at + part.len()
 }
 
 fn put_sign(text: &mut [u8], at: usize, minus: bool) -> usize
-    requires { ⌜ at < length (now text) ⌝ }
-    ensures { λ r. ⌜ r ≤ at + 1 ⌝ }
+    requires { ⌜ at + length (sign minus) ≤ length (now text) ⌝ }
+    ensures { λ r. ⌜ Put (now (text .entry)) at (sign minus) (now (text .exit)) r ⌝ }
 {
     if minus {
-        return put_byte(text, at, b'-');
+        return put_text(text, at, b"-");
     }
     at
 }
 
-// Fills text with the lowest digits of a number.
-fn spell(text: &mut [u8], number: u64) {
-    let mut rest = number;
-    let mut i = text.len();
-    while i > 0 {
-        i -= 1;
-        text[i] = 48 + (rest % 10) as u8;
-        rest /= 10;
-    }
-}
-
-// The `count` lowest digits of a number.
-fn put_digits(text: &mut [u8], at: usize, count: usize, number: u64) -> usize
-    requires { ⌜ at + count ≤ length (now text) ⌝ }
-    ensures { λ r. ⌜ r ≡ at + count ⌝ }
-{
-    let end = at + count;
-    spell(&mut text[at..end], number);
-    end
-}
-
 // A number without its `places` lowest digits.
-fn without(number: u64, places: usize) -> u64 {
+fn without(number: u64, places: usize) -> u64
+    ensures { λ r. ⌜ r ≡ number / 10 ^ places ⌝ }
+{
     let mut rest = number;
     let mut left = places;
     while left > 0 {
@@ -64,22 +39,53 @@ fn without(number: u64, places: usize) -> u64 {
     rest
 }
 
+// The lowest digit of a number.
+fn put_digit(text: &mut [u8], at: usize, number: u64) -> usize
+    requires { ⌜ at < length (now text) ⌝ }
+    ensures { λ r. ⌜ Put (now (text .entry)) at ((48 + number % 10) ∷ []) (now (text .exit)) r ⌝ }
+{
+    let digit = [48 + (number % 10) as u8];
+    put_text(text, at, &digit)
+}
+
+// The `count` lowest digits of a number, the highest first.
+fn put_digits(text: &mut [u8], at: usize, count: usize, number: u64) -> usize
+    requires { ⌜ at + length (digits count number) ≤ length (now text) ⌝ }
+    ensures { λ r. ⌜ Put (now (text .entry)) at (digits count number) (now (text .exit)) r ⌝ }
+{
+    let mut end = at;
+    let mut left = count;
+    while left > 0 {
+        left -= 1;
+        end = put_digit(text, end, without(number, left));
+    }
+    end
+}
+
+// A point and the `places` lowest digits of a number; nothing, where there are to be none.
+fn put_behind(text: &mut [u8], at: usize, number: u64, places: usize) -> usize
+    requires { ⌜ at + length (behind number places) ≤ length (now text) ⌝ }
+    ensures { λ r. ⌜ Put (now (text .entry)) at (behind number places) (now (text .exit)) r ⌝ }
+{
+    if places == 0 {
+        return at;
+    }
+    let point = put_text(text, at, b".");
+    put_digits(text, point, places, number)
+}
+
 // A number with `whole` digits before a point and its `places` lowest digits behind it.
 fn put_pointed(text: &mut [u8], at: usize, number: u64, whole: usize, places: usize) -> usize
-    requires { ⌜ at + whole + places < length (now text) ⌝ }
-    ensures { λ r. ⌜ r ≤ at + whole + places + 1 ⌝ }
+    requires { ⌜ at + length (pointed number whole places) ≤ length (now text) ⌝ }
+    ensures { λ r. ⌜ Put (now (text .entry)) at (pointed number whole places) (now (text .exit)) r ⌝ }
 {
     let first = put_digits(text, at, whole, without(number, places));
-    if places == 0 {
-        return first;
-    }
-    let point = put_byte(text, first, b'.');
-    put_digits(text, point, places, number)
+    put_behind(text, first, number, places)
 }
 
 // How many digits an exponent has.
 fn width(e: usize) -> usize
-    ensures { λ r. ⌜ r ≤ 3 ⌝ }
+    ensures { λ r. ⌜ r ≡ Text·width e ⌝ }
 {
     if e < 10 {
         return 1;
@@ -91,10 +97,10 @@ fn width(e: usize) -> usize
 }
 
 fn put_exponent(text: &mut [u8], at: usize, minus: bool, e: usize) -> usize
-    requires { ⌜ at + 5 ≤ length (now text) ⌝ }
-    ensures { λ r. ⌜ r ≤ at + 5 ⌝ }
+    requires { ⌜ at + length (exponent minus e) ≤ length (now text) ⌝ }
+    ensures { λ r. ⌜ Put (now (text .entry)) at (exponent minus e) (now (text .exit)) r ⌝ }
 {
-    let mark = put_byte(text, at, b'e');
+    let mark = put_text(text, at, b"e");
     let sign = put_sign(text, mark, minus);
     put_digits(text, sign, width(e), e as u64)
 }
@@ -108,8 +114,8 @@ fn put_scientific(
     minus: bool,
     e: usize,
 ) -> usize
-    requires { ⌜ (length (now text) ≡ 24) × (at ≤ 1) × (1 ≤ count) × (count ≤ 17) ⌝ }
-    ensures { λ r. ⌜ r ≤ 24 ⌝ }
+    requires { ⌜ (1 ≤ count) × (at + length (scientific number count minus e) ≤ length (now text)) ⌝ }
+    ensures { λ r. ⌜ Put (now (text .entry)) at (scientific number count minus e) (now (text .exit)) r ⌝ }
 {
     let first = put_pointed(text, at, number, 1, count - 1);
     put_exponent(text, first, minus, e)
@@ -124,8 +130,8 @@ fn put_positional(
     raised: usize,
     lowered: usize,
 ) -> usize
-    requires { ⌜ (length (now text) ≡ 24) × (at ≤ 1) × (count ≤ 17) × (raised ≤ 16) × (lowered ≤ 4) ⌝ }
-    ensures { λ r. ⌜ r ≤ 24 ⌝ }
+    requires { ⌜ (count ≤ 17) × (lowered ≤ 400) × (at + length (positional number count raised lowered) ≤ length (now text)) ⌝ }
+    ensures { λ r. ⌜ Put (now (text .entry)) at (positional number count raised lowered) (now (text .exit)) r ⌝ }
 {
     if raised == 0 {
         return put_pointed(text, at, number, 1, count + lowered);
@@ -137,14 +143,18 @@ fn put_positional(
     put_pointed(text, at, number, raised, count - raised)
 }
 
-fn put_found(text: &mut [u8], at: usize, d: Found) -> usize
-    requires { ⌜ (length (now text) ≡ 24) × (at ≤ 1) × (1 ≤ d .count) × (d .count ≤ 17) × (d .lowered ≤ 400) ⌝ }
-    ensures { λ r. ⌜ r ≤ 24 ⌝ }
+// Scientific where the number is 1e16 or more, or below 1e-5.
+fn put_laid(
+    text: &mut [u8],
+    at: usize,
+    number: u64,
+    count: usize,
+    raised: usize,
+    lowered: usize,
+) -> usize
+    requires { ⌜ (1 ≤ count) × (count ≤ 17) × (lowered ≤ 400) × (at + length (laid number count raised lowered) ≤ length (now text)) ⌝ }
+    ensures { λ r. ⌜ Put (now (text .entry)) at (laid number count raised lowered) (now (text .exit)) r ⌝ }
 {
-    let number = d.number;
-    let count = d.count;
-    let raised = d.raised;
-    let lowered = d.lowered;
     if raised > 16 {
         return put_scientific(text, at, number, count, false, raised - 1);
     }
@@ -154,21 +164,30 @@ fn put_found(text: &mut [u8], at: usize, d: Found) -> usize
     put_positional(text, at, number, count, raised, lowered)
 }
 
+// The text of a pattern without its sign.
+fn put_unsigned(text: &mut [u8], at: usize, size: u64) -> usize
+    requires { ⌜ at + length (unsigned size) ≤ length (now text) ⌝ }
+    ensures { λ r. ⌜ Put (now (text .entry)) at (unsigned size) (now (text .exit)) r ⌝ }
+{
+    if size == 0x7ff0_0000_0000_0000 {
+        return put_text(text, at, b"inf");
+    }
+    if size == 0 {
+        return put_text(text, at, b"0");
+    }
+    let d = shortest::digits_of(size);
+    put_laid(text, at, d.number, d.count, d.raised, d.lowered)
+}
+
 // The text of the number with these bits.
 pub(crate) fn put(text: &mut [u8], bits: u64) -> usize
     requires { ⌜ length (now text) ≡ 24 ⌝ }
-    ensures { λ r. ⌜ r ≤ 24 ⌝ }
+    ensures { λ r. ⌜ Put (now (text .entry)) 0 (Text·text bits) (now (text .exit)) r ⌝ }
 {
     let size = bits % 0x8000_0000_0000_0000;
     if size > 0x7ff0_0000_0000_0000 {
-        return put_word(text, 0, b'n', b'a', b'n');
+        return put_text(text, 0, b"nan");
     }
     let at = put_sign(text, 0, bits >= 0x8000_0000_0000_0000);
-    if size == 0x7ff0_0000_0000_0000 {
-        return put_word(text, at, b'i', b'n', b'f');
-    }
-    if size == 0 {
-        return put_byte(text, at, b'0');
-    }
-    put_found(text, at, shortest::digits_of(size))
+    put_unsigned(text, at, size)
 }
