@@ -12,4 +12,5 @@ pub mod Words
 pub mod Stream
 pub mod Case
 pub mod Shortest
+pub mod Decimal
 pub mod Fit
