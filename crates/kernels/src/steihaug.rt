@@ -196,26 +196,6 @@ fn stop_at(n: usize, w: &mut [f64], tau: Number) -> Turn
     }
 }
 
-// No curvature, or a negative one, along d.
-fn curved(n: usize, w: &mut [f64], radius: f64, g: &[f64], h: &[f64]) -> Turn
-    requires { ⌜ Square n (length (now h)) × (length (now g) ≡ n) × (8 * n ≤ length (now w)) ⌝ }
-    ensures { λ r. ⌜ passed r n (now (w .exit)) ≡ Steihaug.curved n radius (now (g .entry)) (now (h .entry)) (slot (now (w .entry)) n 0) (slot (now (w .entry)) n 2) ⌝ }
-{
-    let roots = roots_at(n, w, radius);
-    let tau = by_model(n, w, roots, g, h);
-    stop_at(n, w, tau)
-}
-
-// The next point is outside of the radius.
-fn crossing(n: usize, w: &mut [f64], radius: f64) -> Turn
-    requires { ⌜ 8 * n ≤ length (now w) ⌝ }
-    ensures { λ r. ⌜ passed r n (now (w .exit)) ≡ Steihaug.crossing n radius (slot (now (w .entry)) n 0) (slot (now (w .entry)) n 2) ⌝ }
-{
-    let roots = roots_at(n, w, radius);
-    let tau = forward(roots);
-    stop_at(n, w, tau)
-}
-
 // On to the next pass, from q and s.
 fn onward(n: usize, w: &mut [f64], rtr: f64) -> Turn
     requires { ⌜ 8 * n ≤ length (now w) ⌝ }
@@ -238,7 +218,9 @@ fn straight(n: usize, w: &mut [f64], radius: f64, small: f64, rtr: f64, alpha: f
     workspace::each(n, w, 6, Op::PlusTimes(alpha), 0, 2);
     // equality is already outside
     if workspace::norm(n, w, 6) >= radius {
-        return crossing(n, w, radius);
+        let roots = roots_at(n, w, radius);
+        let tau = forward(roots);
+        return stop_at(n, w, tau);
     }
     workspace::update(n, w, 1, Op::PlusTimes(alpha), 3);
     if workspace::norm(n, w, 1) < small {
@@ -254,8 +236,11 @@ fn pass(n: usize, w: &mut [f64], radius: f64, small: f64, rtr: f64, g: &[f64], h
 {
     workspace::times(n, w, 3, h, 2);
     let dhd = workspace::dot(n, w, 2, 3);
+    // no curvature, or a negative one, along d
     if dhd <= 0.0 {
-        return curved(n, w, radius, g, h);
+        let roots = roots_at(n, w, radius);
+        let tau = by_model(n, w, roots, g, h);
+        return stop_at(n, w, tau);
     }
     straight(n, w, radius, small, rtr, rtr / dhd)
 }

@@ -1,13 +1,15 @@
 -- `kernels::steihaug::straight` meets its contract. Assumes nothing.
 use borrow.Author.Needs.{needs}
-use Rattle.kernels.proofs.Passes.{put-ahead, outside, small-enough, not-yet}
+use Rattle.kernels.proofs.Passes.{put-ahead, forward-here, outside, small-enough, not-yet}
 use Rattle.kernels.proofs.steihaug.straight.Statement.{statement}
 use Rattle.kernels.proofs.steihaug.straight.Tie as tie
 
 returns : tie.Need-returns
 returns c =
-    let q = c .before .before .before .before .before .before .before .before .before in
-    outside _ _ _ _ _ _ _ _ (put-ahead _ _ _ 6 0 2 _ (q .each .ensures)) (c .before .before .before .before .before .norm .ensures) _ (c .before .before .before .before .if1 .taken) (c .before .before .crossing .ensures)
+    let found = c .before .before .before .before .before in
+    let normed = found .before .before .before in
+    outside _ _ _ _ _ _ _ _ (put-ahead _ _ _ 6 0 2 _ (normed .before .before .before .before .each .ensures)) (normed .norm .ensures) _ (found .before .before .if1 .taken)
+    (forward-here _ _ _ _ _ _ (found .roots-at .ensures) (c .before .before .before .before .forward .ensures) (c .before .before .stop-at .ensures))
 
 returns-2 : tie.Need-returns-2
 returns-2 c =
@@ -29,7 +31,7 @@ pub straight-spec : {M : Type 1} → statement M
 straight-spec =
     tie.close
     (tie.spec
-    (λ c κs. search needs) (λ c κs. search needs) (λ c κs. search needs) (λ c. search needs)
+    (λ c κs. search needs) (λ c κs. search needs) (λ c κs. search needs) (λ c κs. search needs) (λ c κs. search needs) (λ c. search needs)
     returns
     (λ c κs. search needs) (λ c κs. search needs) (λ c. search needs)
     returns-2
