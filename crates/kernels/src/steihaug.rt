@@ -84,24 +84,16 @@ fn roots_at(n: usize, w: &[f64], radius: f64) -> Roots
     roots_of(a, b, c, radius * radius)
 }
 
-// The model at slot 6.
-fn model(n: usize, w: &[f64], g: &[f64], h: &[f64]) -> f64
-    requires { ⌜ Square n (length (now h)) × (length (now g) ≡ n) × (8 * n ≤ length (now w)) ⌝ }
-    ensures { λ r. ⌜ r ≡ Steihaug.model n (now (g .entry)) (now (h .entry)) (slot (now (w .entry)) n 6) ⌝ }
-{
-    let x = workspace::part(n, w, 6);
-    vector::dot_any(g, x) + 0.5 * inner::weighted_unchecked(n, x, h, x)
-}
-
 fn value(n: usize, w: &mut [f64], tau: f64, g: &[f64], h: &[f64]) -> Valued
     requires { ⌜ Square n (length (now h)) × (length (now g) ≡ n) × (8 * n ≤ length (now w)) ⌝ }
     ensures { λ r. ⌜ (r ≡ Steihaug.valued n (now (g .entry)) (now (h .entry)) (slot (now (w .entry)) n 0) (slot (now (w .entry)) n 2) tau)
         × Keeps n (now (w .entry)) (now (w .exit)) ⌝ }
 {
     workspace::each(n, w, 6, Op::PlusTimes(tau), 0, 2);
+    let x = workspace::part(n, w, 6);
     Valued {
         tau,
-        model: model(n, w, g, h),
+        model: vector::dot_any(g, x) + 0.5 * inner::weighted_unchecked(n, x, h, x),
     }
 }
 
