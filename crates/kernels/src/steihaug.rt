@@ -188,20 +188,6 @@ fn stop_at(n: usize, w: &mut [f64], tau: Number) -> Turn
     }
 }
 
-// On to the next pass, from q and s.
-fn onward(n: usize, w: &mut [f64], rtr: f64) -> Turn
-    requires { ⌜ 8 * n ≤ length (now w) ⌝ }
-    ensures { λ r. ⌜ passed r n (now (w .exit))
-        ≡ Steihaug.goes-on (Steihaug.onward n (state-in (now (w .entry)) n rtr) (slot (now (w .entry)) n 6) (slot (now (w .entry)) n 1)) ⌝ }
-{
-    let ss = workspace::dot(n, w, 1, 1);
-    let beta = ss / rtr;
-    workspace::each(n, w, 7, Op::Times(-1.0), 1, 1);
-    workspace::each(n, w, 2, Op::PlusTimes(beta), 7, 2);
-    workspace::each(n, w, 0, Op::Same, 6, 6);
-    Turn::WentOn(ss)
-}
-
 // Past the first test: H·d is in slot 3.
 fn straight(n: usize, w: &mut [f64], radius: f64, small: f64, rtr: f64, alpha: f64) -> Turn
     requires { ⌜ 8 * n ≤ length (now w) ⌝ }
@@ -218,7 +204,13 @@ fn straight(n: usize, w: &mut [f64], radius: f64, small: f64, rtr: f64, alpha: f
     if workspace::norm(n, w, 1) < small {
         return Turn::Inside;
     }
-    onward(n, w, rtr)
+    // on to the next pass, from q and s
+    let ss = workspace::dot(n, w, 1, 1);
+    let beta = ss / rtr;
+    workspace::each(n, w, 7, Op::Times(-1.0), 1, 1);
+    workspace::each(n, w, 2, Op::PlusTimes(beta), 7, 2);
+    workspace::each(n, w, 0, Op::Same, 6, 6);
+    Turn::WentOn(ss)
 }
 
 // `small` is epsilon·‖g‖.
