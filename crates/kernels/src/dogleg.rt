@@ -18,7 +18,6 @@ ghost use Rattle.float.specs.Constants.{nought};
 ghost use Rattle.vectors.specs.Slots.{slot};
 ghost use Rattle.vectors.specs.Refusal.{Square, Roomy};
 ghost use Rattle.kernels.specs.Kernel.{Laid, Took, called};
-ghost use Rattle.kernels.specs.Inverse.{rows-in};
 ghost use Rattle.kernels.specs.Dogleg as Dogleg;
 
 // A candidate outside [0, 2] is not kept; one that is kept replaces a lesser or equal one.
@@ -59,15 +58,6 @@ fn bent(n: usize, w: &mut [f64], tau: f64)
     workspace::each(n, w, 0, Op::PlusTimes(tau - 1.0), 1, 2);
 }
 
-// Slot 0 takes pb, for which `eliminate` left its rows in w.
-fn newton(n: usize, w: &mut [f64], g: &[f64])
-    requires { ⌜ Roomy n (length (now w)) × (length (now g) ≡ n) ⌝ }
-    ensures { λ _. ⌜ slot (now (w .exit)) n 0 ≡ Dogleg.newton n (rows-in (now (w .entry)) n) (now (g .entry)) ⌝ }
-{
-    inverse::inverse_times(n, w, 0, g);
-    workspace::each(n, w, 0, Op::Times(-1.0), 0, 0);
-}
-
 // Slot 1 takes pu; slot 0 stays.
 fn unconstrained(n: usize, w: &mut [f64], g: &[f64], h: &[f64])
     requires { ⌜ Square n (length (now h)) × (length (now g) ≡ n) × (3 * n ≤ length (now w)) ⌝ }
@@ -103,7 +93,9 @@ pub(crate) fn lay(n: usize, radius: f64, g: &[f64], h: &[f64], w: &mut [f64]) ->
         vector::clear(w);
         return Stepped::Refused(Refusal::Pivot);
     }
-    newton(n, w, g);
+    // pb, into slot 0
+    inverse::inverse_times(n, w, 0, g);
+    workspace::each(n, w, 0, Op::Times(-1.0), 0, 0);
     step(n, radius, g, h, w);
     kernel::settle(n, w, 0, 0)
 }

@@ -44,17 +44,6 @@ fn start_row(n: usize, w: &mut [f64], i: usize, h: &[f64])
     }
 }
 
-fn start(n: usize, w: &mut [f64], h: &[f64])
-    requires { ⌜ Roomy n (length (now w)) × (length (now h) ≡ n * n) ⌝ }
-    ensures { λ _. ⌜ Inverse.rows-in (now (w .exit)) n ≡ Inverse.start n (now (h .entry)) ⌝ }
-{
-    let mut i = 0;
-    while i < n {
-        start_row(n, w, i, h);
-        i += 1;
-    }
-}
-
 fn entry(n: usize, w: &[f64], i: usize, j: usize) -> f64
     requires { ⌜ Roomy n (length (now w)) × (i < n) × (j < n) ⌝ }
     ensures { λ r. ⌜ r ≡ Inverse.entry (Inverse.rows-in (now (w .entry)) n) i j ⌝ }
@@ -153,7 +142,11 @@ pub(crate) fn eliminate(n: usize, w: &mut [f64], h: &[f64]) -> bool
     requires { ⌜ Roomy n (length (now w)) × (length (now h) ≡ n * n) ⌝ }
     ensures { λ r. ⌜ Inverse.found r (Inverse.rows-in (now (w .exit)) n) ≡ Inverse.eliminated n (now (h .entry)) ⌝ }
 {
-    start(n, w, h);
+    let mut i = 0;
+    while i < n {
+        start_row(n, w, i, h);
+        i += 1;
+    }
     columns(n, w)
 }
 

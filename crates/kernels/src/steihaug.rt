@@ -84,24 +84,16 @@ fn roots_at(n: usize, w: &[f64], radius: f64) -> Roots
     roots_of(a, b, c, radius * radius)
 }
 
-// The model at slot 6.
-fn model(n: usize, w: &[f64], g: &[f64], h: &[f64]) -> f64
-    requires { ⌜ Square n (length (now h)) × (length (now g) ≡ n) × (8 * n ≤ length (now w)) ⌝ }
-    ensures { λ r. ⌜ r ≡ Steihaug.model n (now (g .entry)) (now (h .entry)) (slot (now (w .entry)) n 6) ⌝ }
-{
-    let x = workspace::part(n, w, 6);
-    vector::dot_any(g, x) + 0.5 * inner::weighted_unchecked(n, x, h, x)
-}
-
 fn value(n: usize, w: &mut [f64], tau: f64, g: &[f64], h: &[f64]) -> Valued
     requires { ⌜ Square n (length (now h)) × (length (now g) ≡ n) × (8 * n ≤ length (now w)) ⌝ }
     ensures { λ r. ⌜ (r ≡ Steihaug.valued n (now (g .entry)) (now (h .entry)) (slot (now (w .entry)) n 0) (slot (now (w .entry)) n 2) tau)
         × Keeps n (now (w .entry)) (now (w .exit)) ⌝ }
 {
     workspace::each(n, w, 6, Op::PlusTimes(tau), 0, 2);
+    let x = workspace::part(n, w, 6);
     Valued {
         tau,
-        model: model(n, w, g, h),
+        model: vector::dot_any(g, x) + 0.5 * inner::weighted_unchecked(n, x, h, x),
     }
 }
 
@@ -196,40 +188,6 @@ fn stop_at(n: usize, w: &mut [f64], tau: Number) -> Turn
     }
 }
 
-// No curvature, or a negative one, along d.
-fn curved(n: usize, w: &mut [f64], radius: f64, g: &[f64], h: &[f64]) -> Turn
-    requires { ⌜ Square n (length (now h)) × (length (now g) ≡ n) × (8 * n ≤ length (now w)) ⌝ }
-    ensures { λ r. ⌜ passed r n (now (w .exit)) ≡ Steihaug.curved n radius (now (g .entry)) (now (h .entry)) (slot (now (w .entry)) n 0) (slot (now (w .entry)) n 2) ⌝ }
-{
-    let roots = roots_at(n, w, radius);
-    let tau = by_model(n, w, roots, g, h);
-    stop_at(n, w, tau)
-}
-
-// The next point is outside of the radius.
-fn crossing(n: usize, w: &mut [f64], radius: f64) -> Turn
-    requires { ⌜ 8 * n ≤ length (now w) ⌝ }
-    ensures { λ r. ⌜ passed r n (now (w .exit)) ≡ Steihaug.crossing n radius (slot (now (w .entry)) n 0) (slot (now (w .entry)) n 2) ⌝ }
-{
-    let roots = roots_at(n, w, radius);
-    let tau = forward(roots);
-    stop_at(n, w, tau)
-}
-
-// On to the next pass, from q and s.
-fn onward(n: usize, w: &mut [f64], rtr: f64) -> Turn
-    requires { ⌜ 8 * n ≤ length (now w) ⌝ }
-    ensures { λ r. ⌜ passed r n (now (w .exit))
-        ≡ Steihaug.goes-on (Steihaug.onward n (state-in (now (w .entry)) n rtr) (slot (now (w .entry)) n 6) (slot (now (w .entry)) n 1)) ⌝ }
-{
-    let ss = workspace::dot(n, w, 1, 1);
-    let beta = ss / rtr;
-    workspace::each(n, w, 7, Op::Times(-1.0), 1, 1);
-    workspace::each(n, w, 2, Op::PlusTimes(beta), 7, 2);
-    workspace::each(n, w, 0, Op::Same, 6, 6);
-    Turn::WentOn(ss)
-}
-
 // Past the first test: H·d is in slot 3.
 fn straight(n: usize, w: &mut [f64], radius: f64, small: f64, rtr: f64, alpha: f64) -> Turn
     requires { ⌜ 8 * n ≤ length (now w) ⌝ }
@@ -238,13 +196,21 @@ fn straight(n: usize, w: &mut [f64], radius: f64, small: f64, rtr: f64, alpha: f
     workspace::each(n, w, 6, Op::PlusTimes(alpha), 0, 2);
     // equality is already outside
     if workspace::norm(n, w, 6) >= radius {
-        return crossing(n, w, radius);
+        let roots = roots_at(n, w, radius);
+        let tau = forward(roots);
+        return stop_at(n, w, tau);
     }
     workspace::update(n, w, 1, Op::PlusTimes(alpha), 3);
     if workspace::norm(n, w, 1) < small {
         return Turn::Inside;
     }
-    onward(n, w, rtr)
+    // on to the next pass, from q and s
+    let ss = workspace::dot(n, w, 1, 1);
+    let beta = ss / rtr;
+    workspace::each(n, w, 7, Op::Times(-1.0), 1, 1);
+    workspace::each(n, w, 2, Op::PlusTimes(beta), 7, 2);
+    workspace::each(n, w, 0, Op::Same, 6, 6);
+    Turn::WentOn(ss)
 }
 
 // `small` is epsilon·‖g‖.
@@ -254,8 +220,11 @@ fn pass(n: usize, w: &mut [f64], radius: f64, small: f64, rtr: f64, g: &[f64], h
 {
     workspace::times(n, w, 3, h, 2);
     let dhd = workspace::dot(n, w, 2, 3);
+    // no curvature, or a negative one, along d
     if dhd <= 0.0 {
-        return curved(n, w, radius, g, h);
+        let roots = roots_at(n, w, radius);
+        let tau = by_model(n, w, roots, g, h);
+        return stop_at(n, w, tau);
     }
     straight(n, w, radius, small, rtr, rtr / dhd)
 }
