@@ -14,13 +14,14 @@ use Rattle.kernels.specs.Kernel.{Made, Proper, Took}
 use Rattle.kernels.specs.Choice.{kernel}
 use Rattle.vectors.specs.declared.refusal.Refusal.{Refusal}
 use Rattle.vectors.specs.declared.refusal.Refusal.the-variants.{Size}
+use Rattle.kernels.specs.declared.choice.Choice.{Choice}
 use Rattle.kernels.specs.declared.kernel.Stepped.{Stepped}
 use Rattle.vectors.proofs.Sizes.{both, size-true, square-small}
 use Rattle.vectors.proofs.Vectors.{length-tab}
 use Rattle.kernels.proofs.Choices.{kernel-proper}
 use Rattle.case.specs.declared.Said.{Said}
 use Rattle.case.specs.declared.Said.the-variants.{Refused}
-use Rattle.case.specs.Case.{numbers, choice-of, size-of, radius-of, epsilon-of, limit-of, gradient-of, hessian-of, fits, run-checks, run, case-answer, enough, answer-in, said, told, in-front, Answered}
+use Rattle.case.specs.Case.{numbers, choice-of, size-of, radius-of, gradient-of, hessian-of, fits, run-checks, run, case-answer, enough, answer-in, said, told, in-front, Answered}
 
 -- ---- a step has n numbers
 
@@ -40,11 +41,11 @@ unless-long : (n : ℕ) (cs : List Check) (a : Answer Made) → Long n a → Lon
 unless-long n [] a p = p
 unless-long n (c ∷ cs) a p = one-long n (c .applies) (c .refusal) (unless cs a) (unless-long n cs a p)
 
-run-long : (choice : ℕ) (epsilon : Float) (limit n : ℕ) (radius : Float) (g H : List Float) → Long n (run choice epsilon limit n radius g H)
+run-long : (c : Choice) (n : ℕ) (radius : Float) (g H : List Float) → Long n (run c n radius g H)
 unfolding run
-run-long choice epsilon limit n radius g H =
-    let a = kernel choice epsilon limit n radius g H in
-    unless-long n (run-checks choice epsilon limit radius g H) a (proper-long n a (kernel-proper choice epsilon limit n radius g H))
+run-long c n radius g H =
+    let a = kernel c n radius g H in
+    unless-long n (run-checks c radius g H) a (proper-long n a (kernel-proper c n radius g H))
 
 -- ---- sizes, past the tests
 
@@ -102,7 +103,7 @@ module _ (bytes : List ℕ) (g H step w : List Float) where
       n = size-of bytes
 
       abbrev whole : Answer Made
-      whole = run (choice-of bytes) (epsilon-of bytes) (limit-of bytes) n (radius-of bytes) (gradient-of bytes) (hessian-of bytes)
+      whole = run (choice-of bytes) n (radius-of bytes) (gradient-of bytes) (hessian-of bytes)
 
       answer-whole : answer-in bytes g H step w ≡ whole
       unfolding answer-in case-answer
@@ -121,7 +122,7 @@ module _ (bytes : List ℕ) (g H step w : List Float) where
             → Answered bytes (told n found) g (g′ ++ drop n g) H (H′ ++ drop (n * n) H) step (s ++ drop n step) w (w′ ++ drop (room n) w)
         unfolding numbers
         answered-whole g′ H′ t p q =
-            let long = run-long (choice-of bytes) (epsilon-of bytes) (limit-of bytes) n (radius-of bytes) (gradient-of bytes) (hessian-of bytes) in record {
+            let long = run-long (choice-of bytes) n (radius-of bytes) (gradient-of bytes) (hessian-of bytes) in record {
               says = rw answer-whole (says-one whole long t);
               leaves = rw answer-whole (leaves-one whole long t);
               gradient = rw (e, f, p, length-tab);
@@ -131,7 +132,7 @@ module _ (bytes : List ℕ) (g H step w : List Float) where
 
       -- the same, in the words of the code: m is what it read for the size
       pub answered : (m a b d : ℕ) (r : Said) (found : Stepped) (g′ H′ s w′ : List Float) → m ≡ size-of bytes → a ≡ m → b ≡ m * m → d ≡ room m → r ≡ told m found
-          → Took (run (choice-of bytes) (epsilon-of bytes) (limit-of bytes) m (radius-of bytes) (numbers bytes 5 m) (numbers bytes (5 + m) (m * m))) found (take a step) s (take d w) w′
+          → Took (run (choice-of bytes) m (radius-of bytes) (numbers bytes 5 m) (numbers bytes (5 + m) (m * m))) found (take a step) s (take d w) w′
           × (g′ ≡ numbers bytes 5 m) × (H′ ≡ numbers bytes (5 + m) (m * m))
           → Answered bytes r g (g′ ++ drop a g) H (H′ ++ drop b H) step (s ++ drop a step) w (w′ ++ drop d w)
       answered m a b d r found g′ H′ s w′ i p q o tells t =

@@ -1,60 +1,42 @@
--- The kernel of a number, called directly on lists of the right lengths, gives what `run` says. Assumes nothing.
-use mathlib.Core.Path.{_≡_, refl, _∙_, ap}
-use mathlib.Core.Bool.{true, false, _&&_}
+-- A kernel called directly on a case's own lists gives what `run` says. Assumes nothing.
+use mathlib.Core.Path.{_≡_, _∙_, ap}
+use mathlib.Core.Bool.{true, _&&_}
 use mathlib.Core.List.{List}
-use Prim.Native.Nat.{ℕ, zero, suc, _+_, _*_}
-use native.Mathlib.Omega.{arith}
-use lib.Dec.{leb}
+use Prim.Native.Nat.{ℕ, _+_, _*_}
 use lib.ListN.{length}
 use lib.Ieee.{Float}
-use borrow.Author.Tests.{eq-eqb, le-leb, lt-leb}
+use borrow.Author.Tests.{eq-eqb}
 use Rattle.vectors.specs.Refusal.{size, sized, room, Square, Roomy}
-use Rattle.kernels.specs.Kernel.{bounded, called, Took}
-use Rattle.kernels.specs.CauchyPoint.{cauchy-point}
-use Rattle.kernels.specs.Dogleg.{dogleg}
-use Rattle.kernels.specs.Steihaug.{steihaug}
-use Rattle.kernels.specs.Choice.{kernel}
-use Rattle.vectors.specs.declared.refusal.Refusal.the-variants.{Setting}
+use Rattle.kernels.specs.Kernel.{called, Took}
+use Rattle.kernels.specs.Choice.{asked, kernel}
+use Rattle.kernels.specs.declared.choice.Choice.{Choice}
 use Rattle.kernels.specs.declared.kernel.Stepped.{Stepped}
-use Rattle.kernels.specs.declared.kernel.Stepped.the-variants.{Refused}
+use Rattle.vectors.proofs.Vectors.{length-tab}
 use Rattle.vectors.proofs.Sizes.{square-test}
-use Rattle.case.specs.Case.{numbers, choice-of, radius-of, epsilon-of, limit-of, run}
+use Rattle.case.specs.Case.{numbers, choice-of, radius-of, run}
 
-no-kernel : (choice : ℕ) → (choice ≡ 1 → ⊥) → (choice ≡ 2 → ⊥) → (choice ≡ 3 → ⊥) → (leb 1 choice && leb choice 3) ≡ false
-no-kernel zero a b c = refl
-no-kernel (suc k) a b c = rw (le-leb 1 (suc k) (omega arith), lt-leb (suc k) 3 (omega (arith, a, b, c)))
+-- the sizes are right, so refusals 2 and 4 are left of its checks
+run-called : (c : Choice) (n : ℕ) (radius : Float) (g H step w : List Float) (r : Stepped) (step′ w′ : List Float)
+    → Square n (length H) → length g ≡ n → length step ≡ n → Roomy n (length w)
+    → Took (called (asked c) (kernel c) n radius g H step w) r step step′ w w′ → Took (run c n radius g H) r step step′ w w′
+unfolding called run
+run-called c n radius g H step w r step′ w′ square gradient long roomy h =
+    let sizes : (size n && sized (n * n) H && sized n g && sized n step && sized (room n) w) ≡ true = rw (square-test square, eq-eqb (length g) n gradient, eq-eqb (length step) n long, eq-eqb (length w) (room n) (roomy .long)) in
+    rw sizes at h
 
-module _ (choice : ℕ) (epsilon : Float) (limit n : ℕ) (radius : Float) (g H step w : List Float)
-    (lent : Square n (length H) × (length g ≡ n) × (length step ≡ n) × Roomy n (length w)) where
-  sizes : (size n && sized (n * n) H && sized n g && sized n step && sized (room n) w) ≡ true
-  sizes = rw (square-test (lent .0), eq-eqb (length g) n (lent .1), eq-eqb (length step) n (lent .2), eq-eqb (length w) (room n) (lent .3 .long))
+numbers-long : (bytes : List ℕ) (i k : ℕ) → length (numbers bytes i k) ≡ k
+unfolding numbers
+numbers-long bytes i k = length-tab k _
 
-  module _ (r : Stepped) (step′ w′ : List Float) where
-    pub run-first : choice ≡ 1 → Took (called true cauchy-point n radius g H step w) r step step′ w w′ → Took (run choice epsilon limit n radius g H) r step step′ w w′
-    unfolding called run kernel
-    run-first k h = rw k (rw sizes at h)
-
-    pub run-second : choice ≡ 2 → Took (called true dogleg n radius g H step w) r step step′ w w′ → Took (run choice epsilon limit n radius g H) r step step′ w w′
-    unfolding called run kernel
-    run-second k h = rw k (rw sizes at h)
-
-    pub run-third : choice ≡ 3 → Took (called (bounded epsilon limit) (steihaug epsilon limit) n radius g H step w) r step step′ w w′
-        → Took (run choice epsilon limit n radius g H) r step step′ w w′
-    unfolding called run kernel
-    run-third k h = rw k (rw sizes at h)
-
-  pub run-none : (choice ≡ 1 → ⊥) → (choice ≡ 2 → ⊥) → (choice ≡ 3 → ⊥) → Took (run choice epsilon limit n radius g H) (Refused Setting) step step w w
-  unfolding run
-  run-none a b c = rw (no-kernel choice a b c) (record { says = refl; leaves = refl; clears = refl })
-
--- the same of a case's own words, read into g′ and H′
-pub run-read : (bytes : List ℕ) (n a b : ℕ) (g′ H′ : List Float) (choice limit : ℕ) (radius epsilon : Float) (r : Stepped) (step step′ w w′ : List Float)
-    → a ≡ n → b ≡ n * n → g′ ≡ numbers bytes 5 a → H′ ≡ numbers bytes (5 + n) b
-    → choice ≡ choice-of bytes → radius ≡ radius-of bytes → epsilon ≡ epsilon-of bytes → limit ≡ limit-of bytes
-    → Took (run choice epsilon limit n radius g′ H′) r step step′ w w′
-    → Took (run (choice-of bytes) (epsilon-of bytes) (limit-of bytes) n (radius-of bytes) (numbers bytes 5 n) (numbers bytes (5 + n) (n * n))) r step step′ w w′
+-- of the case's own words, read into g′ and H′ of a and b numbers
+pub run-read : (bytes : List ℕ) (n a b : ℕ) (g′ H′ : List Float) (c : Choice) (radius : Float) (r : Stepped) (step step′ w w′ : List Float)
+    → Square n b × (a ≡ n) × (length step ≡ n) × Roomy n (length w)
+    → g′ ≡ numbers bytes 5 a → H′ ≡ numbers bytes (5 + n) b → c ≡ choice-of bytes → radius ≡ radius-of bytes
+    → Took (called (asked c) (kernel c) n radius g′ H′ step w) r step step′ w w′
+    → Took (run (choice-of bytes) n (radius-of bytes) (numbers bytes 5 n) (numbers bytes (5 + n) (n * n))) r step step′ w w′
     × (g′ ≡ numbers bytes 5 n) × (H′ ≡ numbers bytes (5 + n) (n * n))
-run-read bytes n a b g′ H′ choice limit radius epsilon r step step′ w w′ long square read reads c d e l t =
-    let p = read ∙ ap (numbers bytes 5) long in
-    let q = reads ∙ ap (numbers bytes (5 + n)) square in
-    (rw (p, q, c, d, e, l) at t, p, q)
+run-read bytes n a b g′ H′ c radius r step step′ w w′ lent read reads chosen far t =
+    let p = read ∙ ap (numbers bytes 5) (lent .1) in
+    let q = reads ∙ ap (numbers bytes (5 + n)) (lent .0 .long) in
+    let square : Square n (length (numbers bytes (5 + n) (n * n))) = record { low = lent .0 .low; high = lent .0 .high; long = numbers-long bytes (5 + n) (n * n) } in
+    (run-called (choice-of bytes) n (radius-of bytes) (numbers bytes 5 n) (numbers bytes (5 + n) (n * n)) step w r step′ w′ square (numbers-long bytes 5 n) (lent .2) (lent .3) (rw (p, q, chosen, far) at t), p, q)

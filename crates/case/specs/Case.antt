@@ -1,6 +1,6 @@
 -- "A program reads 8-byte little-endian words (kernel 1 to 3, n, radius, epsilon, limit, g, H)." Definitions only.
 use mathlib.Core.Path.{_≡_}
-use mathlib.Core.Bool.{Bool, true, cond, not, _&&_}
+use mathlib.Core.Bool.{Bool, cond, not, _&&_}
 use mathlib.Core.List.{List, [], _∷_, _++_}
 use Prim.Native.Nat.{ℕ, _+_, _*_}
 use lib.Dec.{eqb, leb}
@@ -9,9 +9,10 @@ use lib.Ieee.{Float, binary64, ofBits}
 use Rattle.words.specs.Words.{word-at}
 use Rattle.vectors.specs.Vector.{tab, all-finite}
 use Rattle.vectors.specs.Refusal.{Answer, refused, given, Check, _if_, unless, size, room, left-in, scratch-after}
-use Rattle.kernels.specs.Kernel.{Made, positive, bounded}
-use Rattle.kernels.specs.Choice.{kernel}
+use Rattle.kernels.specs.Kernel.{Made, positive}
+use Rattle.kernels.specs.Choice.{asked, kernel}
 use Rattle.vectors.specs.declared.refusal.Refusal.the-variants.{Size, Setting, Entry}
+use Rattle.kernels.specs.declared.choice.Choice.{Choice}
 use Rattle.kernels.specs.declared.kernel.Stepped.{Stepped}
 use Rattle.kernels.specs.declared.kernel.Stepped.the-variants as stepped
 use Rattle.case.specs.declared.Said.{Said}
@@ -32,20 +33,14 @@ unfolding tab
 numbers bytes i k = tab k (λ j. number bytes (i + j))
 
 -- "kernel 1 to 3, n, radius, epsilon, limit, g, H", in this order
-abbrev pub choice-of : List ℕ → ℕ
-choice-of bytes = word bytes 0
+abbrev pub choice-of : List ℕ → Choice
+choice-of bytes = record { kernel = word bytes 0; epsilon = number bytes 3; limit = word bytes 4 }
 
 abbrev pub size-of : List ℕ → ℕ
 size-of bytes = word bytes 1
 
 abbrev pub radius-of : List ℕ → Float
 radius-of bytes = number bytes 2
-
-abbrev pub epsilon-of : List ℕ → Float
-epsilon-of bytes = number bytes 3
-
-abbrev pub limit-of : List ℕ → ℕ
-limit-of bytes = word bytes 4
 
 abbrev pub gradient-of : List ℕ → List Float
 gradient-of bytes = numbers bytes 5 (size-of bytes)
@@ -59,27 +54,23 @@ hessian-of bytes = numbers bytes (5 + size-of bytes) (size-of bytes * size-of by
 abbrev pub fits : (bytes n : ℕ) → Bool
 fits bytes n = size n && eqb bytes (8 * (5 + n + n * n))
 
--- "Another kernel number is `refused 2`", and "epsilon and limit are checked for kernel 3 only"
-abbrev pub right : (choice : ℕ) (radius epsilon : Float) (limit : ℕ) → Bool
-right choice radius epsilon limit = leb 1 choice && leb choice 3 && positive radius && cond (eqb choice 3) (bounded epsilon limit) true
-
--- what is asked of the numbers, once there are as many as there should be
-abbrev pub run-checks : (choice : ℕ) (epsilon : Float) (limit : ℕ) (radius : Float) (g H : List Float) → List Check
-run-checks choice epsilon limit radius g H =
-    (Setting if not (right choice radius epsilon limit))
+-- what is asked of the numbers, once there are as many as there should be: "another kernel number is `refused 2`"
+abbrev pub run-checks : Choice → (radius : Float) → (g H : List Float) → List Check
+run-checks c radius g H =
+    (Setting if not (positive radius && asked c))
     ∷ (Entry if not (all-finite g && all-finite H))
     ∷ []
 
-unfoldable pub run : (choice : ℕ) (epsilon : Float) (limit n : ℕ) (radius : Float) (g H : List Float) → Answer Made
-unfolding positive all-finite kernel
-run choice epsilon limit n radius g H = unless (run-checks choice epsilon limit radius g H) (kernel choice epsilon limit n radius g H)
+unfoldable pub run : Choice → ℕ → (radius : Float) → (g H : List Float) → Answer Made
+unfolding positive asked all-finite kernel
+run c n radius g H = unless (run-checks c radius g H) (kernel c n radius g H)
 
 -- an input's step, or its refusal
 unfoldable pub case-answer : List ℕ → Answer Made
 unfolding size numbers run
 case-answer bytes =
     unless ((Size if not (fits (length bytes) (size-of bytes))) ∷ [])
-    (run (choice-of bytes) (epsilon-of bytes) (limit-of bytes) (size-of bytes) (radius-of bytes) (gradient-of bytes) (hessian-of bytes))
+    (run (choice-of bytes) (size-of bytes) (radius-of bytes) (gradient-of bytes) (hessian-of bytes))
 
 -- ---- what the function says and leaves
 

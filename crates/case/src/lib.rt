@@ -2,6 +2,8 @@
 // limit, g, H; and as they write it.
 pub mod lines;
 
+use kernels::choice;
+use kernels::choice::Choice;
 use kernels::kernel::Stepped;
 use vectors::refusal::Refusal;
 ghost use mathlib.Core.Path.{_≡_};
@@ -10,7 +12,7 @@ ghost use lib.ListN.{length};
 ghost use Rattle.vectors.specs.Refusal.{Square, Roomy};
 ghost use Rattle.kernels.specs.Kernel.{Took};
 ghost use Rattle.case.specs.Case as Case;
-ghost use Rattle.case.specs.Case.{numbers, choice-of, radius-of, epsilon-of, limit-of, Answered};
+ghost use Rattle.case.specs.Case.{numbers, choice-of, radius-of, Answered};
 
 // The size of a step and its passes, or why there is none.
 pub enum Said {
@@ -87,7 +89,7 @@ fn fits(bytes: usize, n: usize) -> bool
     bytes == 8 * (5 + n + n * n)
 }
 
-// Reads g and H, and runs the kernel on them.
+// Reads g and H, and runs the kernel on them: its own checks are those of a direct caller.
 fn solve(
     bytes: &[u8],
     n: usize,
@@ -97,61 +99,20 @@ fn solve(
     scratch: &mut [f64],
 ) -> Stepped
     requires { ⌜ Square n (length (now hessian)) × (length (now gradient) ≡ n) × (length (now step) ≡ n) × Roomy n (length (now scratch)) ⌝ }
-    ensures { λ r. ⌜ Took (Case.run (choice-of (now (bytes .entry))) (epsilon-of (now (bytes .entry))) (limit-of (now (bytes .entry))) n (radius-of (now (bytes .entry)))
+    ensures { λ r. ⌜ Took (Case.run (choice-of (now (bytes .entry))) n (radius-of (now (bytes .entry)))
         (numbers (now (bytes .entry)) 5 n) (numbers (now (bytes .entry)) (5 + n) (n * n)))
         r (now (step .entry)) (now (step .exit)) (now (scratch .entry)) (now (scratch .exit))
         × (now (gradient .exit) ≡ numbers (now (bytes .entry)) 5 n) × (now (hessian .exit) ≡ numbers (now (bytes .entry)) (5 + n) (n * n)) ⌝ }
 {
     fill(bytes, 5, gradient);
     fill(bytes, 5 + n, hessian);
-    run(
-        word(bytes, 0),
-        n,
-        number(bytes, 2),
-        number(bytes, 3),
-        word(bytes, 4),
-        gradient,
-        hessian,
-        step,
-        scratch,
-    )
-}
-
-// The kernel of a number. Each makes its own checks, of what it asks for.
-fn run(
-    choice: u64,
-    n: usize,
-    radius: f64,
-    epsilon: f64,
-    limit: u64,
-    gradient: &[f64],
-    hessian: &[f64],
-    step: &mut [f64],
-    scratch: &mut [f64],
-) -> Stepped
-    requires { ⌜ Square n (length (now hessian)) × (length (now gradient) ≡ n) × (length (now step) ≡ n) × Roomy n (length (now scratch)) ⌝ }
-    ensures { λ r. ⌜ Took (Case.run choice epsilon limit n radius (now (gradient .entry)) (now (hessian .entry)))
-        r (now (step .entry)) (now (step .exit)) (now (scratch .entry)) (now (scratch .exit)) ⌝ }
-{
-    if choice == 1 {
-        return kernels::cauchypoint::cauchy_point(n, radius, gradient, hessian, step, scratch);
-    }
-    if choice == 2 {
-        return kernels::dogleg::dogleg(n, radius, gradient, hessian, step, scratch);
-    }
-    if choice == 3 {
-        return kernels::steihaug::steihaug(
-            n,
-            radius,
-            epsilon,
-            limit,
-            gradient,
-            hessian,
-            step,
-            scratch,
-        );
-    }
-    Stepped::Refused(Refusal::Setting)
+    let chosen = Choice {
+        kernel: word(bytes, 0),
+        epsilon: number(bytes, 3),
+        limit: word(bytes, 4),
+    };
+    let radius = number(bytes, 2);
+    choice::direct(chosen, n, radius, gradient, hessian, step, scratch)
 }
 
 // Fills a list with the numbers from word `from` on.

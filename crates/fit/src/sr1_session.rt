@@ -9,6 +9,7 @@ use crate::session::Session as Kinds;
 use crate::standing;
 use crate::standing::Lists;
 use crate::standing::Standing;
+use kernels::choice::Choice;
 use sr1::session::After;
 use sr1::session::Outcome;
 use sr1::session::Phase;
@@ -19,14 +20,17 @@ use sr1::sr1_trustregion;
 
 // The numbers are radius, eta, factor, tol_grad and epsilon. Where a start is refused, no call is made of what stands for it.
 pub(crate) fn begin(kernel: u64, numbers: [f64; 5], limit: u64, cost: f64) -> Happened {
-    let settings = Settings {
+    let choice = Choice {
         kernel,
+        epsilon: numbers[4],
+        limit,
+    };
+    let settings = Settings {
+        choice,
         radius: numbers[0],
         eta: numbers[1],
         factor: numbers[2],
         tol_grad: numbers[3],
-        epsilon: numbers[4],
-        limit,
     };
     let start = sr1_trustregion::start(settings, cost);
     match start {

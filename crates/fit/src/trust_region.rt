@@ -12,6 +12,7 @@ use crate::session::Session as Kinds;
 use crate::standing;
 use crate::standing::Lists;
 use crate::standing::Standing;
+use kernels::choice::Choice;
 use trustregion::session::After;
 use trustregion::session::Outcome;
 use trustregion::session::Phase;
@@ -23,13 +24,16 @@ use trustregion::trustregion_method;
 // The numbers are radius, max_radius, eta and epsilon. Where a start is refused, no call is made of what stands for it.
 pub(crate) fn begin(kernel: u64, numbers: [f64; 5], limit: u64, cost: f64) -> Happened {
     let radius = numbers[0];
-    let settings = Settings {
+    let choice = Choice {
         kernel,
+        epsilon: numbers[3],
+        limit,
+    };
+    let settings = Settings {
+        choice,
         radius,
         max_radius: numbers[1],
         eta: numbers[2],
-        epsilon: numbers[3],
-        limit,
     };
     let start = trustregion_method::start(settings, cost);
     match start {

@@ -1,10 +1,12 @@
 -- What both kinds of session share of their lists. Definitions only.
 use mathlib.Core.Path.{_≡_}
+use mathlib.Core.Bool.{Bool, cond}
 use mathlib.Core.List.{List, [], _∷_, _++_}
 use Prim.Native.Nat.{ℕ}
 use lib.ListN.{getD}
 use lib.Ieee.{Float}
 use Rattle.vectors.specs.Refusal.{number}
+use Rattle.kernels.specs.declared.choice.Choice.{Choice}
 use Rattle.foreign_sessions.specs.declared.Turn.{Turn}
 use Rattle.foreign_sessions.specs.declared.Said.{Said}
 use Rattle.foreign_sessions.specs.declared.Said.the-variants.{Refused, Kept}
@@ -12,6 +14,10 @@ use Rattle.foreign_sessions.specs.declared.Said.the-variants.{Refused, K
 -- the word at index i
 abbrev pub word : List ℕ → ℕ → ℕ
 word words i = getD words i 0
+
+-- the choice of a session in lists; the kernel is 0 where the phase is none: refusal 2 meets it
+abbrev pub choice-of : (phase-known : Bool) → (words : List ℕ) → (epsilon : Float) → Choice
+choice-of phase-known words epsilon = record { kernel = cond phase-known (word words 0) 0; epsilon = epsilon; limit = word words 1 }
 
 -- what a call returns, 0 or a refusal's number, and leaves in the two lists
 pub record Told : Type 0 where
@@ -23,9 +29,9 @@ abbrev pub told : ℕ → List ℕ → List Float → Told
 told number words numbers = record { number = number; words = words; numbers = numbers }
 
 -- a session in lists, with what was said of it: the words and, after the settings' numbers, what every session has
-abbrev pub wrote : (kernel limit : ℕ) → (settings : List Float) → (radius cost : Float) → Turn → (said passes : ℕ) → (ratio : Float) → Told
-wrote kernel limit settings radius cost turn said passes ratio =
-    told 0 (kernel ∷ limit ∷ turn .0 ∷ said ∷ passes ∷ []) (settings ++ radius ∷ cost ∷ turn .1 ∷ turn .2 ∷ ratio ∷ [])
+abbrev pub wrote : Choice → (settings : List Float) → (radius cost : Float) → Turn → (said passes : ℕ) → (ratio : Float) → Told
+wrote choice settings radius cost turn said passes ratio =
+    told 0 (choice .kernel ∷ choice .limit ∷ turn .0 ∷ said ∷ passes ∷ []) (settings ++ radius ∷ cost ∷ turn .1 ∷ turn .2 ∷ ratio ∷ [])
 
 -- what is left of two lists, where `written` is what a call that is not refused writes: a refusal writes nothing
 abbrev pub kept : (written : ℕ → ℕ → Float → Told) → (words : List ℕ) → (numbers : List Float) → Said → Told

@@ -21,14 +21,13 @@ use Rattle.foreign_sessions.specs.declared.Turn.{Turn}
 use Rattle.foreign_sessions.specs.declared.Said.{Said}
 use Rattle.foreign_sessions.specs.declared.Said.the-variants as said
 use Rattle.foreign_sessions.specs.Lists as Lists
-use Rattle.foreign_sessions.specs.Lists.{word, Told, told}
+use Rattle.foreign_sessions.specs.Lists.{word, choice-of, Told, told}
 
 -- ---- from lists
 
--- the kernel is 0 where the phase is none: refusal 2 meets it
 abbrev pub settings-of : (phase-known : Bool) → (words : List ℕ) → (numbers : List Float) → Settings
 settings-of phase-known words numbers =
-    record { kernel = cond phase-known (word words 0) 0; radius = at numbers 0; eta = at numbers 1; factor = at numbers 2; «tol_grad» = at numbers 3; epsilon = at numbers 4; limit = word words 1 }
+    record { choice = choice-of phase-known words (at numbers 4); radius = at numbers 0; eta = at numbers 1; factor = at numbers 2; «tol_grad» = at numbers 3 }
 
 abbrev pub cost-of : (numbers : List Float) → Float
 cost-of numbers = at numbers 6
@@ -54,10 +53,10 @@ said-of (Accepted ratio) = said.Kept 2 0 ratio
 said-of (Rejected ratio) = said.Kept 3 0 ratio
 
 abbrev pub numbers-of : Settings → List Float
-numbers-of settings = settings .radius ∷ settings .eta ∷ settings .factor ∷ settings .«tol_grad» ∷ settings .epsilon ∷ []
+numbers-of settings = settings .radius ∷ settings .eta ∷ settings .factor ∷ settings .«tol_grad» ∷ settings .choice .epsilon ∷ []
 
 abbrev pub kept : (words : List ℕ) → (numbers : List Float) → Session → Said → Told
-kept words numbers s = Lists.kept (Lists.wrote (s .settings .kernel) (s .settings .limit) (numbers-of (s .settings)) (s .radius) (s .cost) (turn-of (s .phase))) words numbers
+kept words numbers s = Lists.kept (Lists.wrote (s .settings .choice) (numbers-of (s .settings)) (s .radius) (s .cost) (turn-of (s .phase))) words numbers
 
 -- what a start leaves
 abbrev pub began : (words : List ℕ) → (numbers : List Float) → Start → Told

@@ -6,6 +6,7 @@
 use crate::Said;
 use crate::Turn;
 use crate::kernel_of;
+use kernels::choice::Choice;
 use sr1::session::After;
 use sr1::session::Outcome;
 use sr1::session::Phase;
@@ -32,13 +33,15 @@ fn session_of(phase_known: bool, words: &[u64; 5], numbers: &[f64; 10]) -> Sessi
     let phase = phase_of(words[2], numbers[7], numbers[8]);
     Session {
         settings: Settings {
-            kernel: kernel,
+            choice: Choice {
+                kernel: kernel,
+                epsilon: numbers[4],
+                limit: words[1],
+            },
             radius: numbers[0],
             eta: numbers[1],
             factor: numbers[2],
             tol_grad: numbers[3],
-            epsilon: numbers[4],
-            limit: words[1],
         },
         radius: numbers[5],
         cost: numbers[6],
@@ -89,13 +92,19 @@ fn keep(s: Session, said: Said, words: &mut [u64; 5], numbers: &mut [f64; 10]) -
         Said::Refused(r) => vectors::refusal::number(r),
         Said::Kept(number, passes, ratio) => {
             let turn = turn_of(s);
-            *words = [s.settings.kernel, s.settings.limit, turn.0, number, passes];
+            *words = [
+                s.settings.choice.kernel,
+                s.settings.choice.limit,
+                turn.0,
+                number,
+                passes,
+            ];
             *numbers = [
                 s.settings.radius,
                 s.settings.eta,
                 s.settings.factor,
                 s.settings.tol_grad,
-                s.settings.epsilon,
+                s.settings.choice.epsilon,
                 s.radius,
                 s.cost,
                 turn.1,

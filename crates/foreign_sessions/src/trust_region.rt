@@ -6,6 +6,7 @@
 use crate::Said;
 use crate::Turn;
 use crate::kernel_of;
+use kernels::choice::Choice;
 use trustregion::session::After;
 use trustregion::session::Outcome;
 use trustregion::session::Phase;
@@ -32,12 +33,14 @@ fn session_of(phase_known: bool, words: &[u64; 5], numbers: &[f64; 9]) -> Sessio
     let phase = phase_of(words[2], numbers[6], numbers[7]);
     Session {
         settings: Settings {
-            kernel: kernel,
+            choice: Choice {
+                kernel: kernel,
+                epsilon: numbers[3],
+                limit: words[1],
+            },
             radius: numbers[0],
             max_radius: numbers[1],
             eta: numbers[2],
-            epsilon: numbers[3],
-            limit: words[1],
         },
         radius: numbers[4],
         cost: numbers[5],
@@ -91,12 +94,18 @@ fn keep(s: Session, said: Said, words: &mut [u64; 5], numbers: &mut [f64; 9]) ->
         Said::Refused(r) => vectors::refusal::number(r),
         Said::Kept(number, passes, ratio) => {
             let turn = turn_of(s);
-            *words = [s.settings.kernel, s.settings.limit, turn.0, number, passes];
+            *words = [
+                s.settings.choice.kernel,
+                s.settings.choice.limit,
+                turn.0,
+                number,
+                passes,
+            ];
             *numbers = [
                 s.settings.radius,
                 s.settings.max_radius,
                 s.settings.eta,
-                s.settings.epsilon,
+                s.settings.choice.epsilon,
                 s.radius,
                 s.cost,
                 turn.1,

@@ -1,62 +1,83 @@
--- Laws of the kernel of a number, and of the sessions' door. Assumes nothing.
+-- Laws of a kernel's choice, and of the sessions' door. Assumes nothing.
 use mathlib.Core.Path.{_≡_, refl, sym, _∙_}
-use mathlib.Core.Bool.{Bool, true, false, cond, _&&_}
-use mathlib.Core.List.{List}
-use Prim.Native.Nat.{ℕ, _*_, _≤_}
-use native.Mathlib.Omega.{arith}
-use lib.Dec.{eqb, leb}
+use mathlib.Core.Bool.{Bool, true, false, cond, not, _&&_}
+use mathlib.Core.List.{List, [], _∷_}
+use Prim.Native.Nat.{ℕ, _*_}
+use lib.Dec.{eqb}
 use lib.ListN.{length}
 use lib.Ieee.{Float}
-use borrow.Author.Tests.{eq-eqb, leb-true, le-leb}
-use Rattle.vectors.specs.Refusal.{size, sized, room}
-use Rattle.kernels.specs.Kernel.{Proper, Laid}
+use borrow.Author.Tests.{eq-eqb, ne-eqb}
+use Rattle.vectors.specs.Vector.{all-finite}
+use Rattle.vectors.specs.Refusal.{Check, _if_, judged, size, sized, room}
+use Rattle.kernels.specs.Kernel.{positive, bounded, Proper, Laid, kernel-checks}
 use Rattle.kernels.specs.CauchyPoint.{cauchy-point}
 use Rattle.kernels.specs.Dogleg.{dogleg}
 use Rattle.kernels.specs.Steihaug.{steihaug}
-use Rattle.kernels.specs.Choice.{kernel, door}
-use Rattle.vectors.specs.declared.refusal.Refusal.the-variants.{Size, Setting}
+use Rattle.kernels.specs.Choice.{known, in-range, asked, kernel, door}
+use Rattle.vectors.specs.declared.refusal.Refusal.{Refusal}
+use Rattle.vectors.specs.declared.refusal.Refusal.the-variants.{Size, Setting, Entry}
+use Rattle.vectors.specs.declared.refusal.Verdict.the-variants.{Passed}
 use Rattle.kernels.specs.declared.kernel.Stepped.{Stepped}
 use Rattle.kernels.specs.declared.kernel.Stepped.the-variants.{Refused}
-use Rattle.vectors.proofs.Sizes.{square-test}
-use Rattle.kernels.proofs.Kernels.{Lent}
+use Rattle.kernels.specs.declared.choice.Choice.{Choice}
+use Rattle.vectors.proofs.Sizes.{both, square-test}
+use Rattle.kernels.proofs.Kernels.{Lent, first-passed}
 use Rattle.kernels.proofs.CauchyPoints.{cauchy-proper}
 use Rattle.kernels.proofs.Doglegs.{dogleg-proper}
 use Rattle.kernels.proofs.Passes.{steihaug-proper}
 
 -- a kernel's step has n numbers, and a kernel refuses from 6 on
-pub kernel-proper : (choice : ℕ) (epsilon : Float) (limit n : ℕ) (radius : Float) (g H : List Float) → Proper n (kernel choice epsilon limit n radius g H)
+pub kernel-proper : (c : Choice) (n : ℕ) (radius : Float) (g H : List Float) → Proper n (kernel c n radius g H)
 unfolding kernel
-kernel-proper choice epsilon limit n radius g H = pick (eqb choice 1) (eqb choice 2) where
-  pick : (b c : Bool) → Proper n (cond b cauchy-point (cond c dogleg (steihaug epsilon limit)) n radius g H)
-  pick true c = cauchy-proper n radius g H
+kernel-proper c n radius g H = pick (eqb (c .kernel) 1) (eqb (c .kernel) 2) where
+  pick : (a b : Bool) → Proper n (cond a cauchy-point (cond b dogleg (steihaug (c .epsilon) (c .limit))) n radius g H)
+  pick true b = cauchy-proper n radius g H
   pick false true = dogleg-proper n radius g H
-  pick false false = steihaug-proper epsilon limit n radius g H
+  pick false false = steihaug-proper (c .epsilon) (c .limit) n radius g H
+
+-- ---- a choice in range names a kernel
+
+pub in-range-known : (c : Choice) → in-range c ≡ true → known (c .kernel) ≡ true
+unfolding in-range
+in-range-known c e = both (known (c .kernel)) (bounded (c .epsilon) (c .limit)) e .0
+
+asked-known : (c : Choice) → asked c ≡ true → known (c .kernel) ≡ true
+unfolding asked
+asked-known c = pick (eqb (c .kernel) 3) where
+  pick : (b : Bool) → cond b (in-range c) (known (c .kernel)) ≡ true → known (c .kernel) ≡ true
+  pick true e = in-range-known c e
+  pick false e = e
+
+second-passed : (a b : Bool) (q r : Refusal) (cs : List Check) → judged ((q if not a) ∷ (r if not b) ∷ cs) ≡ Passed → b ≡ true
+second-passed true b q r cs e = first-passed b r cs e
+second-passed false b q r cs e = cc
+
+-- so does that of a direct caller, past its checks
+pub checked-known : (c : Choice) (n : ℕ) (radius : Float) (g H step w : List Float) → judged (kernel-checks (asked c) n radius g H step w) ≡ Passed → known (c .kernel) ≡ true
+checked-known c n radius g H step w e =
+    asked-known c (both (positive radius) (asked c)
+    (second-passed (size n && sized (n * n) H && sized n g && sized n step && sized (room n) w) (positive radius && asked c) Size Setting ((Entry if not (all-finite g && all-finite H)) ∷ []) e) .1)
+
+-- ---- the door
 
 and-true : (b : Bool) → (b && true) ≡ b
 and-true true = refl
 and-true false = refl
 
-not-both : (a b : Bool) → (a ≡ true → b ≡ true → ⊥) → (a && b) ≡ false
-not-both true true h = absurd (h refl refl)
-not-both true false h = refl
-not-both false b h = refl
-
--- past the checks of a direct caller the door is open
-pub opened : (choice : ℕ) (epsilon : Float) (limit n : ℕ) (radius : Float) (g H w : List Float) {s : ℕ} → Lent n (length H) (length g) s (length w) → 1 ≤ choice → choice ≤ 3
-    → door choice epsilon limit n radius g H w ≡ kernel choice epsilon limit n radius g H
-unfolding door
-opened choice epsilon limit n radius g H w l p q =
-    simp (square-test (l .square), eq-eqb (length g) n (l .gradient), eq-eqb (length w) (room n) (l .roomy .long), le-leb 1 choice p, le-leb choice 3 q)
-
 -- the sizes, where the length of a step is tested too and is n
 no-step : (n h g scratch : ℕ) → (size n && eqb h (n * n) && eqb g n && eqb n n && eqb scratch (room n)) ≡ (size n && eqb h (n * n) && eqb g n && eqb scratch (room n))
 no-step n h g scratch = rw (eq-eqb n n refl, and-true (size n && eqb h (n * n) && eqb g n))
 
-module _ (choice : ℕ) (epsilon : Float) (limit n : ℕ) (radius : Float) (g H w : List Float) where
+module _ (c : Choice) (n : ℕ) (radius : Float) (g H w : List Float) where
+  -- past the checks of a direct caller the door is open
+  pub opened : {s : ℕ} → Lent n (length H) (length g) s (length w) → known (c .kernel) ≡ true → door c n radius g H w ≡ kernel c n radius g H
+  unfolding door
+  opened l k = rw (square-test (l .square), eq-eqb (length g) n (l .gradient), eq-eqb (length w) (room n) (l .roomy .long), k)
+
   abbrev sizes : Bool
   sizes = size n && sized (n * n) H && sized n g && eqb n n && sized (room n) w
 
-  pub shut-size : sizes ≡ false → Laid (door choice epsilon limit n radius g H w) (Refused Size) w w
+  pub shut-size : sizes ≡ false → Laid (door c n radius g H w) (Refused Size) w w
   unfolding door
   shut-size e = rw (sym (no-step n (length H) (length g) (length w)) ∙ e) (record { says = refl; lays = refl })
 
@@ -64,21 +85,19 @@ module _ (choice : ℕ) (epsilon : Float) (limit n : ℕ) (radius : Float) (g H 
     fits : (size n && sized (n * n) H && sized n g && sized (room n) w) ≡ true
     fits = sym (no-step n (length H) (length g) (length w)) ∙ e
 
-    module _ (r : Stepped) (w′ : List Float) where
-      pub door-first : choice ≡ 1 → Laid (cauchy-point n radius g H) r w w′ → Laid (door choice epsilon limit n radius g H w) r w w′
-      unfolding door kernel
-      door-first k h = rw (fits, k) h
-
-      pub door-second : choice ≡ 2 → Laid (dogleg n radius g H) r w w′ → Laid (door choice epsilon limit n radius g H w) r w w′
-      unfolding door kernel
-      door-second k h = rw (fits, k) h
-
-      pub door-third : choice ≡ 3 → Laid (steihaug epsilon limit n radius g H) r w w′ → Laid (door choice epsilon limit n radius g H w) r w w′
-      unfolding door kernel
-      door-third k h = rw (fits, k) h
-
-    pub shut-choice : (choice ≡ 1 → ⊥) → (choice ≡ 2 → ⊥) → (choice ≡ 3 → ⊥) → Laid (door choice epsilon limit n radius g H w) (Refused Setting) w w
+    pub shut-kernel : known (c .kernel) ≡ false → Laid (door c n radius g H w) (Refused Setting) w w
     unfolding door
-    shut-choice a b c =
-        let none : (leb 1 choice && leb choice 3) ≡ false = not-both (leb 1 choice) (leb choice 3) (λ p q. omega (arith, leb-true 1 choice p, leb-true choice 3 q, a, b, c)) in
-        rw (fits, none) (record { says = refl; lays = refl })
+    shut-kernel k = rw (fits, k) (record { says = refl; lays = refl })
+
+    module _ (k : known (c .kernel) ≡ true) (r : Stepped) (w′ : List Float) where
+      pub door-first : c .kernel ≡ 1 → Laid (cauchy-point n radius g H) r w w′ → Laid (door c n radius g H w) r w w′
+      unfolding door kernel
+      door-first a h = rw (fits, k, eq-eqb (c .kernel) 1 a) h
+
+      pub door-second : (c .kernel ≡ 1 → ⊥) → c .kernel ≡ 2 → Laid (dogleg n radius g H) r w w′ → Laid (door c n radius g H w) r w w′
+      unfolding door kernel
+      door-second a b h = rw (fits, k, ne-eqb (c .kernel) 1 a, eq-eqb (c .kernel) 2 b) h
+
+      pub door-third : (c .kernel ≡ 1 → ⊥) → (c .kernel ≡ 2 → ⊥) → Laid (steihaug (c .epsilon) (c .limit) n radius g H) r w w′ → Laid (door c n radius g H w) r w w′
+      unfolding door kernel
+      door-third a b h = rw (fits, k, ne-eqb (c .kernel) 1 a, ne-eqb (c .kernel) 2 b) h

@@ -1,29 +1,49 @@
--- "Kernel 1 to 3 (Cauchy, Dogleg, Steihaug)." Definitions only.
-use mathlib.Core.Bool.{cond, not, _&&_}
+-- A kernel's choice: which kernel, and what it is told beside the radius and its lists. Definitions only.
+use mathlib.Core.Bool.{Bool, cond, not, _&&_}
 use mathlib.Core.List.{List, [], _∷_}
 use Prim.Native.Nat.{ℕ, _*_}
 use lib.Dec.{eqb, leb}
 use lib.Ieee.{Float}
+use Rattle.float.specs.Constants.{billionth}
 use Rattle.vectors.specs.Refusal.{Answer, Check, _if_, unless, size, sized, room}
-use Rattle.kernels.specs.Kernel.{Kernel, Made}
+use Rattle.kernels.specs.Kernel.{Kernel, Made, positive, bounded}
 use Rattle.kernels.specs.CauchyPoint.{cauchy-point}
 use Rattle.kernels.specs.Dogleg.{dogleg}
 use Rattle.kernels.specs.Steihaug.{steihaug}
+use Rattle.kernels.specs.declared.choice.Choice.{Choice}
 use Rattle.vectors.specs.declared.refusal.Refusal.the-variants.{Size, Setting}
 
--- the kernel of a number; one that is neither 1 nor 2 counts as 3, and settings let no other through
-unfoldable pub kernel : (choice : ℕ) (epsilon : Float) (limit : ℕ) → Kernel
+-- "epsilon 1e-9 .. The iteration limit has no default here."
+abbrev pub by-default : (kernel limit : ℕ) → Choice
+by-default kernel limit = record { kernel = kernel; epsilon = billionth; limit = limit }
+
+-- "Kernel 1 to 3 (Cauchy, Dogleg, Steihaug)"
+unfoldable pub known : (kernel : ℕ) → Bool
+known kernel = leb 1 kernel && leb kernel 3
+
+-- "Kernel 1 to 3 ..; epsilon > 0; Steihaug's iteration limit 0 to 10,000", whatever the kernel
+unfoldable pub in-range : Choice → Bool
+unfolding known positive
+in-range c = known (c .kernel) && bounded (c .epsilon) (c .limit)
+
+-- what a kernel that is called directly asks: "epsilon and limit are checked for kernel 3 only"
+unfoldable pub asked : Choice → Bool
+unfolding known in-range
+asked c = cond (eqb (c .kernel) 3) (in-range c) (known (c .kernel))
+
+-- the kernel that is chosen; a number that is neither 1 nor 2 counts as 3, and no range lets another through
+unfoldable pub kernel : Choice → Kernel
 unfolding cauchy-point dogleg steihaug
-kernel choice epsilon limit = cond (eqb choice 1) cauchy-point (cond (eqb choice 2) dogleg (steihaug epsilon limit))
+kernel c = cond (eqb (c .kernel) 1) cauchy-point (cond (eqb (c .kernel) 2) dogleg (steihaug (c .epsilon) (c .limit)))
 
 -- ---- the sessions' door: a session has made its own checks, and here stand those without which no kernel can run
 
-abbrev pub door-checks : (choice n : ℕ) → (g H scratch : List Float) → List Check
-door-checks choice n g H scratch =
+abbrev pub door-checks : Choice → ℕ → (g H scratch : List Float) → List Check
+door-checks c n g H scratch =
     (Size if not (size n && sized (n * n) H && sized n g && sized (room n) scratch))
-    ∷ (Setting if not (leb 1 choice && leb choice 3))
+    ∷ (Setting if not (known (c .kernel)))
     ∷ []
 
-unfoldable pub door : (choice : ℕ) (epsilon : Float) (limit n : ℕ) (radius : Float) (g H scratch : List Float) → Answer Made
-unfolding size kernel
-door choice epsilon limit n radius g H scratch = unless (door-checks choice n g H scratch) (kernel choice epsilon limit n radius g H)
+unfoldable pub door : Choice → ℕ → (radius : Float) → (g H scratch : List Float) → Answer Made
+unfolding size known kernel
+door c n radius g H scratch = unless (door-checks c n g H scratch) (kernel c n radius g H)

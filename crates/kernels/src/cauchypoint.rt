@@ -1,10 +1,10 @@
 // CauchyPoint: the minimum of the model along the steepest descent, within the radius
 // (Nocedal and Wright, Numerical Optimization, section 4.1).
 use crate::choice;
+use crate::choice::Choice;
 use crate::inner;
 use crate::kernel;
 use crate::kernel::Stepped;
-use crate::kernel::Told;
 use crate::workspace;
 use crate::workspace::Op;
 use vectors::vector;
@@ -56,12 +56,14 @@ pub fn cauchy_point(
     ensures { λ r. ⌜ Took (called true CauchyPoint.cauchy-point n radius (now (gradient .entry)) (now (hessian .entry)) (now (step .entry)) (now (scratch .entry)))
         r (now (step .entry)) (now (step .exit)) (now (scratch .entry)) (now (scratch .exit)) ⌝ }
 {
-    let told = Told {
-        kernel: 1,
-        radius: radius,
-        epsilon: 1.0,
-        limit: 0,
-        sound: true,
-    };
-    choice::direct(told, n, gradient, hessian, step, scratch)
+    // the limit is not looked at
+    choice::direct(
+        Choice::new(1, 0),
+        n,
+        radius,
+        gradient,
+        hessian,
+        step,
+        scratch,
+    )
 }

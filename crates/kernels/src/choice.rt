@@ -1,69 +1,131 @@
-// The choice of a kernel by its number: one door for both sessions, and the way that every direct caller goes.
+// A kernel's choice: one door for both sessions, and the way that every direct caller goes.
 use crate::cauchypoint;
 use crate::dogleg;
 use crate::kernel;
 use crate::kernel::Stepped;
-use crate::kernel::Told;
 use crate::steihaug;
 use vectors::refusal::Refusal;
 use vectors::refusal::Verdict;
-ghost use Prim.Native.Nat.{_≤_};
+ghost use mathlib.Core.Path.{_≡_};
 ghost use Rattle.kernels.specs.Kernel.{Laid, Took, called};
-ghost use Rattle.kernels.specs.Choice as Choice;
-ghost use Rattle.kernels.specs.Choice.{door};
+ghost use Rattle.kernels.specs.Choice as Definition;
+ghost use Rattle.kernels.specs.Choice.{by-default, in-range, door};
+
+// Which kernel, and what it is told beside the radius and its lists: epsilon and the limit are Steihaug's.
+pub struct Choice {
+    pub kernel: u64,
+    pub epsilon: f64,
+    pub limit: u64,
+}
+
+impl Choice {
+    pub const EPSILON: f64 = 1e-9;
+
+    // The default for all but the kernel and Steihaug's iteration limit, which have none.
+    pub fn new(kernel: u64, limit: u64) -> Self
+        ensures { λ r. ⌜ r ≡ by-default kernel limit ⌝ }
+    {
+        Self {
+            kernel: kernel,
+            epsilon: Self::EPSILON,
+            limit: limit,
+        }
+    }
+}
+
+// The number of a kernel.
+fn known(kernel: u64) -> bool
+    ensures { λ r. ⌜ r ≡ Definition.known kernel ⌝ }
+{
+    if kernel < 1 {
+        return false;
+    }
+    kernel <= 3
+}
+
+// What a session asks of its choice, whatever the kernel.
+pub fn in_range(choice: Choice) -> bool
+    ensures { λ r. ⌜ r ≡ in-range choice ⌝ }
+{
+    if !known(choice.kernel) {
+        return false;
+    }
+    kernel::bounded(choice.epsilon, choice.limit)
+}
+
+// What a kernel that is called directly asks of it: only Steihaug looks at epsilon and the limit.
+fn asked(choice: Choice) -> bool
+    ensures { λ r. ⌜ r ≡ Definition.asked choice ⌝ }
+{
+    if choice.kernel == 3 {
+        return in_range(choice);
+    }
+    known(choice.kernel)
+}
 
 // A session has made its own checks; here stand those without which no kernel can run. The step is left in the scratch.
 pub fn lay(
-    choice: u64,
+    choice: Choice,
     n: usize,
     radius: f64,
-    epsilon: f64,
-    limit: u64,
     gradient: &[f64],
     hessian: &[f64],
     scratch: &mut [f64],
 ) -> Stepped
-    ensures { λ r. ⌜ Laid (door choice epsilon limit n radius (now (gradient .entry)) (now (hessian .entry)) (now (scratch .entry))) r (now (scratch .entry)) (now (scratch .exit)) ⌝ }
+    ensures { λ r. ⌜ Laid (door choice n radius (now (gradient .entry)) (now (hessian .entry)) (now (scratch .entry))) r (now (scratch .entry)) (now (scratch .exit)) ⌝ }
 {
     // no step is lent here, hence n for its length
     if !kernel::sized(n, hessian.len(), gradient.len(), n, scratch.len()) {
         return Stepped::Refused(Refusal::Size);
     }
-    if choice == 1 {
+    if !known(choice.kernel) {
+        return Stepped::Refused(Refusal::Setting);
+    }
+    if choice.kernel == 1 {
         return cauchypoint::lay(n, radius, gradient, hessian, scratch);
     }
-    if choice == 2 {
+    if choice.kernel == 2 {
         return dogleg::lay(n, radius, gradient, hessian, scratch);
     }
-    if choice == 3 {
-        return steihaug::lay(n, radius, epsilon, limit, gradient, hessian, scratch);
-    }
-    Stepped::Refused(Refusal::Setting)
+    steihaug::lay(
+        n,
+        radius,
+        choice.epsilon,
+        choice.limit,
+        gradient,
+        hessian,
+        scratch,
+    )
 }
 
 // A kernel for a direct caller: refusals 1, 2 and 4 before the door, and the copy after it.
-pub(crate) fn direct(
-    told: Told,
+pub fn direct(
+    choice: Choice,
     n: usize,
-    g: &[f64],
-    h: &[f64],
+    radius: f64,
+    gradient: &[f64],
+    hessian: &[f64],
     step: &mut [f64],
-    w: &mut [f64],
+    scratch: &mut [f64],
 ) -> Stepped
-    requires { ⌜ (1 ≤ told .kernel) × (told .kernel ≤ 3) ⌝ }
-    ensures { λ r. ⌜ Took (called (told .sound) (Choice.kernel (told .kernel) (told .epsilon) (told .limit)) n (told .radius) (now (g .entry)) (now (h .entry)) (now (step .entry)) (now (w .entry)))
-        r (now (step .entry)) (now (step .exit)) (now (w .entry)) (now (w .exit)) ⌝ }
+    ensures { λ r. ⌜ Took (called (Definition.asked choice) (Definition.kernel choice) n radius (now (gradient .entry)) (now (hessian .entry)) (now (step .entry)) (now (scratch .entry)))
+        r (now (step .entry)) (now (step .exit)) (now (scratch .entry)) (now (scratch .exit)) ⌝ }
 {
-    let kernel = told.kernel;
-    let radius = told.radius;
-    let epsilon = told.epsilon;
-    let limit = told.limit;
-    let verdict = kernel::checked(told.sound, n, radius, g, h, step.len(), w.len());
+    let settings = asked(choice);
+    let verdict = kernel::checked(
+        settings,
+        n,
+        radius,
+        gradient,
+        hessian,
+        step.len(),
+        scratch.len(),
+    );
     match verdict {
         Verdict::Failed(r) => Stepped::Refused(r),
         Verdict::Passed => {
-            let found = lay(kernel, n, radius, epsilon, limit, g, h, w);
-            kernel::hand_over(n, found, step, w)
+            let found = lay(choice, n, radius, gradient, hessian, scratch);
+            kernel::hand_over(n, found, step, scratch)
         }
     }
 }

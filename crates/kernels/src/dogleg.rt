@@ -1,11 +1,11 @@
 // Dogleg: along the steepest descent to its minimum, then towards Newton's point, up to the radius
 // (Nocedal and Wright, Numerical Optimization, section 4.1).
 use crate::choice;
+use crate::choice::Choice;
 use crate::inner;
 use crate::inverse;
 use crate::kernel;
 use crate::kernel::Stepped;
-use crate::kernel::Told;
 use crate::workspace;
 use crate::workspace::Op;
 use vectors::refusal::Refusal;
@@ -112,12 +112,14 @@ pub fn dogleg(
     ensures { λ r. ⌜ Took (called true Dogleg.dogleg n radius (now (gradient .entry)) (now (hessian .entry)) (now (step .entry)) (now (scratch .entry)))
         r (now (step .entry)) (now (step .exit)) (now (scratch .entry)) (now (scratch .exit)) ⌝ }
 {
-    let told = Told {
-        kernel: 2,
-        radius: radius,
-        epsilon: 1.0,
-        limit: 0,
-        sound: true,
-    };
-    choice::direct(told, n, gradient, hessian, step, scratch)
+    // the limit is not looked at
+    choice::direct(
+        Choice::new(2, 0),
+        n,
+        radius,
+        gradient,
+        hessian,
+        step,
+        scratch,
+    )
 }

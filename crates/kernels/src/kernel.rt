@@ -24,16 +24,6 @@ pub enum Stepped {
     Refused(Refusal),
 }
 
-// What a kernel is told beside its lists: its number, and its settings. Epsilon and the limit are Steihaug's,
-// and `sound` says whether the kernel's own settings are in range.
-pub(crate) struct Told {
-    pub kernel: u64,
-    pub radius: f64,
-    pub epsilon: f64,
-    pub limit: u64,
-    pub sound: bool,
-}
-
 // Finite, and above zero.
 pub fn positive(x: f64) -> bool
     ensures { λ r. ⌜ r ≡ Kernel.positive x ⌝ }

@@ -2,10 +2,10 @@
 // (Nocedal and Wright, Numerical Optimization, section 7.1).
 // In the scratch w, p is slot 0, r and then s slot 1, d slot 2, H·d slot 3, and q, or p + d·tau, slot 6.
 use crate::choice;
+use crate::choice::Choice;
 use crate::inner;
 use crate::kernel;
 use crate::kernel::Stepped;
-use crate::kernel::Told;
 use crate::workspace;
 use crate::workspace::Op;
 use vectors::refusal::Refusal;
@@ -326,12 +326,10 @@ pub fn steihaug(
     ensures { λ r. ⌜ Took (called (bounded epsilon limit) (Steihaug.steihaug epsilon limit) n radius (now (gradient .entry)) (now (hessian .entry)) (now (step .entry)) (now (scratch .entry)))
         r (now (step .entry)) (now (step .exit)) (now (scratch .entry)) (now (scratch .exit)) ⌝ }
 {
-    let told = Told {
+    let choice = Choice {
         kernel: 3,
-        radius: radius,
         epsilon: epsilon,
         limit: limit,
-        sound: kernel::bounded(epsilon, limit),
     };
-    choice::direct(told, n, gradient, hessian, step, scratch)
+    choice::direct(choice, n, radius, gradient, hessian, step, scratch)
 }

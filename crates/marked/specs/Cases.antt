@@ -8,6 +8,7 @@ use Rattle.vectors.specs.Vector.{zeros}
 use Rattle.vectors.specs.Refusal.{Answer, refused, given, room}
 use Rattle.vectors.specs.declared.refusal.Refusal.the-variants.{Range}
 use Rattle.kernels.specs.Kernel.{Made, made}
+use Rattle.kernels.specs.Choice.{by-default}
 use Rattle.kernels.specs.CauchyPoint.{cauchy-point}
 use Rattle.kernels.specs.Dogleg.{dogleg}
 use Rattle.kernels.specs.Steihaug.{steihaug}
@@ -73,7 +74,7 @@ minus-zero-step = steps-to 0 ((minus 0 over 1) ∷ (minus 0 over 1) ∷ [])
 -- a session of the defaults but for max_radius: radius 2.5, and "f 10"
 abbrev session-of : (max-radius radius f : Float) → Phase → Session
 session-of max-radius radius f phase = record {
-  settings = record { kernel = 1; radius = one; «max_radius» = max-radius; eta = eighth; epsilon = billionth; limit = 5 };
+  settings = record { choice = by-default 1 5; radius = one; «max_radius» = max-radius; eta = eighth };
   radius = radius;
   cost = f;
   phase = phase;

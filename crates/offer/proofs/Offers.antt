@@ -12,7 +12,8 @@ use Rattle.vectors.specs.Vector.{plus, zeros, all-finite}
 use Rattle.vectors.specs.Slots.{slot, Puts}
 use Rattle.vectors.specs.Refusal.{Answer, refused, given, then, size, sized, room, scratch-after}
 use Rattle.kernels.specs.Kernel.{Made, made, Proper, Laid}
-use Rattle.kernels.specs.Choice.{kernel, door}
+use Rattle.kernels.specs.Choice.{known, kernel, door}
+use Rattle.kernels.specs.declared.choice.Choice.{Choice}
 use Rattle.vectors.specs.declared.refusal.Refusal.{Refusal}
 use Rattle.vectors.specs.declared.refusal.Refusal.the-variants.{Size, Setting, Range}
 use Rattle.kernels.specs.declared.kernel.Stepped.{Stepped}
@@ -21,7 +22,7 @@ use Rattle.vectors.proofs.Slots.{length-slot}
 use Rattle.vectors.proofs.Sizes.{square-test}
 use Rattle.kernels.proofs.Choices.{kernel-proper}
 use Rattle.offer.specs.Offer.{all-sized, Offer, offered, offer}
-use Rattle.offer.specs.Calls.{known, replaced, offering, measured, Offers}
+use Rattle.offer.specs.Calls.{replaced, offering, measured, Offers}
 use Rattle.offer.specs.declared.Offered.{Offered}
 use Rattle.offer.specs.declared.Offered.the-variants.{Refused, Step}
 use Rattle.offer.proofs.Lengths.{lent-true, copied}
@@ -89,43 +90,43 @@ given-long n false true a m p e = absurd (let z : _≡_ {A = ℕ} 0 1 = cc in om
 given-long n false false (refused r) m p e = absurd (let z : _≡_ {A = ℕ} 0 1 = cc in omega arith)
 given-long n false false (given x) m p e = let same : m ≡ x = cc in rw same p
 
-module _ (choice : ℕ) (epsilon : Float) (limit n : ℕ) (radius : Float) (point g H step trial w : List Float) where
-  door-long : (m : Made) → door choice epsilon limit n radius g H w ≡ given m → length (m .step) ≡ n
+module _ (c : Choice) (n : ℕ) (radius : Float) (point g H step trial w : List Float) where
+  door-long : (m : Made) → door c n radius g H w ≡ given m → length (m .step) ≡ n
   unfolding door
   door-long m e =
-      given-long n (not (size n && sized (n * n) H && sized n g && sized (room n) w)) (not (known choice))
-      (kernel choice epsilon limit n radius g H) m (kernel-proper choice epsilon limit n radius g H) e
+      given-long n (not (size n && sized (n * n) H && sized n g && sized (room n) w)) (not (known (c .kernel)))
+      (kernel c n radius g H) m (kernel-proper c n radius g H) e
 
   pub no-size : all-sized n point g H step trial w ≡ false
-      → Offers n g H (offering choice epsilon limit n radius point g H step trial w) (Refused Size) step trial w step trial w
+      → Offers n g H (offering c n radius point g H step trial w) (Refused Size) step trial w step trial w
   unfolding offering
   no-size e = rw e (record { says = refl; leaves-step = refl; leaves-trial = refl; leaves-scratch = refl })
 
   module _ (e : all-sized n point g H step trial w ≡ true) where
-    opens : offering choice epsilon limit n radius point g H step trial w ≡ then (offer n point) (door choice epsilon limit n radius g H w)
+    opens : offering c n radius point g H step trial w ≡ then (offer n point) (door c n radius g H w)
     unfolding offering
     opens = rw e
 
-    -- by the kernel of the number itself, which a session's definitions speak of
-    pub offers-kernel : known choice ≡ true
-        → offering choice epsilon limit n radius point g H step trial w ≡ then (offer n point) (kernel choice epsilon limit n radius g H)
+    -- by the chosen kernel itself, which a session's definitions speak of
+    pub offers-kernel : known (c .kernel) ≡ true
+        → offering c n radius point g H step trial w ≡ then (offer n point) (kernel c n radius g H)
     unfolding door
     offers-kernel k =
         let l = lent-true n (length point) (length g) (length H) (length step) (length trial) (length w) e in
         opens ∙ rw (square-test (l .square), eq-eqb (length g) n (l .gradient), eq-eqb (length w) (room n) (l .scratch), k)
 
-    module _ (found : Stepped) (w₁ : List Float) (laid : Laid (door choice epsilon limit n radius g H w) found w w₁) where
+    module _ (found : Stepped) (w₁ : List Float) (laid : Laid (door c n radius g H w) found w w₁) where
       pub no-step : (r : Refusal) → found ≡ stepped.Refused r
-          → Offers n g H (offering choice epsilon limit n radius point g H step trial w) (Refused r) step trial w step trial w₁
-      no-step r f = rw opens (go (door choice epsilon limit n radius g H w) laid) where
+          → Offers n g H (offering c n radius point g H step trial w) (Refused r) step trial w step trial w₁
+      no-step r f = rw opens (go (door c n radius g H w) laid) where
         go : (a : Answer Made) → Laid a found w w₁ → Offers n g H (then (offer n point) a) (Refused r) step trial w step trial w₁
         go (refused x) h = let same : r ≡ x = (let both : stepped.Refused r ≡ stepped.Refused x = sym f ∙ h .says in cc) in record { says = ap Refused same; leaves-step = refl; leaves-trial = refl; leaves-scratch = h .lays }
         go (given m) h = absurd (let both : stepped.Refused r ≡ stepped.In (m .passes) = sym f ∙ h .says in let z : _≡_ {A = ℕ} 0 1 = cc in omega arith)
 
       pub step-made : (passes : ℕ) (r : Offered) (step′ trial′ w′ : List Float) → found ≡ stepped.In passes → length w₁ ≡ length w
           → Offers n g H (offer n point (made passes (slot w₁ n 0))) r step trial w₁ step′ trial′ w′
-          → Offers n g H (offering choice epsilon limit n radius point g H step trial w) r step trial w step′ trial′ w′
-      step-made passes r step′ trial′ w′ f l o = rw opens (go (door choice epsilon limit n radius g H w) laid door-long) where
+          → Offers n g H (offering c n radius point g H step trial w) r step trial w step′ trial′ w′
+      step-made passes r step′ trial′ w′ f l o = rw opens (go (door c n radius g H w) laid door-long) where
         go : (a : Answer Made) → Laid a found w w₁ → ((m : Made) → a ≡ given m → length (m .step) ≡ n) → Offers n g H (then (offer n point) a) r step trial w step′ trial′ w′
         go (refused x) h long = absurd (let both : stepped.In passes ≡ stepped.Refused x = sym f ∙ h .says in let z : _≡_ {A = ℕ} 0 1 = cc in omega arith)
         go (given m) h long =

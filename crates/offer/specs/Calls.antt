@@ -3,20 +3,17 @@ use mathlib.Core.Path.{_≡_}
 use mathlib.Core.Bool.{Bool, cond, not, _&&_}
 use mathlib.Core.List.{List, [], _∷_}
 use Prim.Native.Nat.{ℕ}
-use lib.Dec.{eqb, leb}
+use lib.Dec.{eqb}
 use lib.ListN.{length}
 use lib.Ieee.{Float}
 use Rattle.vectors.specs.Vector.{dot, weighted, norm, all-finite}
 use Rattle.vectors.specs.Refusal.{Answer, refused, given, Check, _if_, unless, then, size, left-in, scratch-after}
 use Rattle.kernels.specs.Choice.{door}
+use Rattle.kernels.specs.declared.choice.Choice.{Choice}
 use Rattle.vectors.specs.declared.refusal.Refusal.the-variants.{Size, Setting, Turn, Entry, Radius}
 use Rattle.offer.specs.Offer.{all-sized, Offer, offer}
 use Rattle.offer.specs.declared.Offered.{Offered}
 use Rattle.offer.specs.declared.Offered.the-variants as offered
-
--- "Kernel 1 to 3 (Cauchy, Dogleg, Steihaug)"
-abbrev pub known : (kernel : ℕ) → Bool
-known kernel = leb 1 kernel && leb kernel 3
 
 -- refusals 1 to 5, by what each of them asks
 abbrev pub early-checks : (sized sound in-turn finite zero-radius : Bool) → List Check
@@ -40,11 +37,11 @@ replaced from to = cond (eqb (length to) (length from)) from to
 -- ---- a step is offered
 
 -- the kernel's door, with the vectors of a proposal beside its own, and then the trial
-unfoldable pub offering : (choice : ℕ) (epsilon : Float) (limit n : ℕ) (radius : Float) (point gradient hessian step trial scratch : List Float) → Answer Offer
+unfoldable pub offering : Choice → ℕ → (radius : Float) → (point gradient hessian step trial scratch : List Float) → Answer Offer
 unfolding size door offer
-offering choice epsilon limit n radius point gradient hessian step trial scratch =
+offering c n radius point gradient hessian step trial scratch =
     unless ((Size if not (all-sized n point gradient hessian step trial scratch)) ∷ [])
-    (then (offer n point) (door choice epsilon limit n radius gradient hessian scratch))
+    (then (offer n point) (door c n radius gradient hessian scratch))
 
 -- a step p with its passes, p·g, p·H·p and ‖p‖
 abbrev pub measured : ℕ → (gradient hessian : List Float) → (passes : ℕ) → (p : List Float) → Offered

@@ -3,6 +3,7 @@ pub mod lent;
 pub mod range;
 
 use kernels::choice;
+use kernels::choice::Choice;
 use kernels::kernel::Stepped;
 use vectors::refusal::Refusal;
 use vectors::vector;
@@ -82,13 +83,11 @@ fn hand_out(
     measured(n, gradient, hessian, passes, step)
 }
 
-// The kernel of a number is run, and its step and the trial are written, unless a refusal is due.
+// The kernel that is chosen is run, and its step and the trial are written, unless a refusal is due.
 pub fn make(
-    kernel: u64,
+    choice: Choice,
     n: usize,
     radius: f64,
-    epsilon: f64,
-    limit: u64,
     point: &[f64],
     gradient: &[f64],
     hessian: &[f64],
@@ -97,7 +96,7 @@ pub fn make(
     scratch: &mut [f64],
 ) -> Offered
     ensures { λ r. ⌜ Offers n (now (gradient .entry)) (now (hessian .entry))
-        (offering kernel epsilon limit n radius (now (point .entry)) (now (gradient .entry)) (now (hessian .entry)) (now (step .entry)) (now (trial .entry)) (now (scratch .entry)))
+        (offering choice n radius (now (point .entry)) (now (gradient .entry)) (now (hessian .entry)) (now (step .entry)) (now (trial .entry)) (now (scratch .entry)))
         r (now (step .entry)) (now (trial .entry)) (now (scratch .entry)) (now (step .exit)) (now (trial .exit)) (now (scratch .exit)) ⌝ }
 {
     if !lent::all_sized(
@@ -111,16 +110,7 @@ pub fn make(
     ) {
         return Offered::Refused(Refusal::Size);
     }
-    let laid = choice::lay(
-        kernel,
-        n,
-        radius,
-        epsilon,
-        limit,
-        gradient,
-        hessian,
-        scratch,
-    );
+    let laid = choice::lay(choice, n, radius, gradient, hessian, scratch);
     match laid {
         Stepped::Refused(r) => Offered::Refused(r),
         Stepped::In(passes) => {

@@ -30,16 +30,6 @@ pub fn all(a: bool, b: bool, c: bool, d: bool, e: bool, f: bool) -> bool
     f
 }
 
-// The number of a kernel.
-pub fn known(kernel: u64) -> bool
-    ensures { λ r. ⌜ r ≡ Calls.known kernel ⌝ }
-{
-    if kernel < 1 {
-        return false;
-    }
-    kernel <= 3
-}
-
 // The radius and the cost that a session keeps.
 pub fn steady(radius: f64, cost: f64) -> bool
     ensures { λ r. ⌜ r ≡ Offer.steady radius cost ⌝ }

@@ -47,7 +47,7 @@ numbered (given a) = 0
 
 -- a start at a radius
 abbrev begins : (radius f : Float) → ℕ
-begins radius f = numbered (start (record { kernel = 1; radius = radius; eta = thousandth; factor = half; «tol_grad» = neg nought; epsilon = one; limit = 0 }) f)
+begins radius f = numbered (start (record { choice = record { kernel = 1; epsilon = one; limit = 0 }; radius = radius; eta = thousandth; factor = half; «tol_grad» = neg nought }) f)
 
 -- a proposal asked of a session at a point of two numbers and a gradient
 abbrev asked : (radius f : Float) → Phase → ℕ → (point gradient : List Float) → ℕ

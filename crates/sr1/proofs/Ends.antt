@@ -13,15 +13,17 @@ use Rattle.float.specs.Constants.{nought, one, half, hundredth}
 use Rattle.float.proofs.Commute.{mul-commutes}
 use Rattle.vectors.specs.Vector.{zeros, dot-to, dot, all-finite}
 use Rattle.vectors.specs.Refusal.{Answer, refused, given, Check, _if_, then, judged, sized, Square}
-use Rattle.kernels.specs.Kernel.{positive, bounded}
+use Rattle.kernels.specs.Kernel.{positive}
+use Rattle.kernels.specs.Choice as Choice
 use Rattle.vectors.specs.declared.refusal.Refusal.{Refusal}
 use Rattle.vectors.specs.declared.refusal.Refusal.the-variants.{Size, Setting, Turn, Entry, Radius, Range}
 use Rattle.vectors.specs.declared.refusal.Verdict.{Verdict}
 use Rattle.vectors.specs.declared.refusal.Verdict.the-variants.{Passed, Failed}
 use Rattle.vectors.proofs.Sizes.{both}
+use Rattle.kernels.proofs.Choices.{in-range-known}
 use Rattle.kernels.proofs.Kernels.{unless-passed, unless-failed, early, first-passed}
 use Rattle.offer.specs.Offer.{all-sized, steady, Offer}
-use Rattle.offer.specs.Calls.{known, replaced, offering, Offers}
+use Rattle.offer.specs.Calls.{replaced, offering, Offers}
 use Rattle.offer.specs.declared.Offered.{Offered}
 use Rattle.offer.specs.declared.Offered.the-variants as offered
 use Rattle.offer.proofs.Checks.{passed-none, not-not}
@@ -56,15 +58,15 @@ module _ (t : Settings) (f : Float) (v : Verdict) (judges : v ≡ judged (start-
 -- ---- the proposal
 
 -- settings in range name a kernel
-kernel-known : (t : Settings) → in-range t ≡ true → known (t .kernel) ≡ true
+kernel-known : (t : Settings) → in-range t ≡ true → Choice.known (t .choice .kernel) ≡ true
 unfolding in-range
 kernel-known t e =
-    let a = known (t .kernel) in
+    let a = Choice.in-range (t .choice) in
     let b = positive (magnitude (t .radius)) in
     let c = between (t .eta) hundredth in
     let d = between (t .factor) one in
     let f = finite (t .«tol_grad») && le nought (t .«tol_grad») in
-    both a b (both (a && b) c (both (a && b && c) d (both (a && b && c && d) f (both (a && b && c && d && f) (bounded (t .epsilon) (t .limit)) e .0) .0) .0) .0) .0
+    in-range-known (t .choice) (both a b (both (a && b) c (both (a && b && c) d (both (a && b && c && d) f e .0) .0) .0) .0)
 
 -- the kernels' p·g is document 01's g·s
 dot-to-commutes : (a b : List Float) (k : ℕ) → dot-to a b k ≡ dot-to b a k
@@ -105,10 +107,10 @@ module _ (s : Session) (n : ℕ) (point gradient hessian step trial scratch : Li
   steps-not e = rw e (record { says = refl; leaves-step = refl; leaves-trial = refl; leaves-scratch = refl })
 
   module _ (passed : judged checks ≡ Passed) (far : eq (s .radius) nought ≡ false) (found : Offered) (step′ trial′ scratch′ : List Float)
-      (offers : Offers n gradient hessian (offering (s .settings .kernel) (s .settings .epsilon) (s .settings .limit) n (s .radius) point gradient hessian step trial scratch)
+      (offers : Offers n gradient hessian (offering (s .settings .choice) n (s .radius) point gradient hessian step trial scratch)
       found step trial scratch step′ trial′ scratch′) where
     abbrev answer : Answer Offer
-    answer = offering (s .settings .kernel) (s .settings .epsilon) (s .settings .limit) n (s .radius) point gradient hessian step trial scratch
+    answer = offering (s .settings .choice) n (s .radius) point gradient hessian step trial scratch
 
     sizes : all-sized n point gradient hessian step trial scratch ≡ true
     sizes = is-true _ (not-not (all-sized n point gradient hessian step trial scratch) (passed-none checks passed .0))
@@ -119,7 +121,7 @@ module _ (s : Session) (n : ℕ) (point gradient hessian step trial scratch : Li
     follows =
         let right : sound s ≡ true = is-true _ (not-not (sound s) (passed-none checks passed .1 .0)) in
         let kernel = kernel-known (s .settings) (both (in-range (s .settings)) (steady (s .radius) (s .cost)) right .0) in
-        rw (far, offers-kernel (s .settings .kernel) (s .settings .epsilon) (s .settings .limit) n (s .radius) point gradient hessian step trial scratch sizes kernel)
+        rw (far, offers-kernel (s .settings .choice) n (s .radius) point gradient hessian step trial scratch sizes kernel)
 
     pub steps-none : (r : Refusal) → found ≡ offered.Refused r → Proposes (stepping chosen s n point gradient hessian) s step trial scratch (refusing s r) step′ trial′ scratch′
     steps-none r f =

@@ -1,24 +1,21 @@
 -- The settings of `SR1TrustRegion`: their defaults, their range and the kernel that they choose. Definitions only.
 use mathlib.Core.Bool.{Bool, _&&_}
 use Prim.Native.Nat.{ℕ}
-use lib.Dec.{leb}
 use lib.Ieee.{Float, lt, le}
 use Rattle.float.specs.Numbers.{finite, magnitude}
-use Rattle.float.specs.Constants.{nought, one, hundredth, thousandth, half-thousandth, hundred-millionth, billionth}
-use Rattle.kernels.specs.Kernel.{Kernel, positive, bounded}
+use Rattle.float.specs.Constants.{nought, one, hundredth, thousandth, half-thousandth, hundred-millionth}
+use Rattle.kernels.specs.Kernel.{Kernel, positive}
 use Rattle.kernels.specs.Choice as Choice
 use Rattle.sr1.specs.declared.settings.Settings.{Settings}
 
 -- "The defaults belong to the settings themselves as fixed numbers: .. SR1 radius 1, eta 0.5·1e-3, factor 1e-8, tol_grad 1e-3; epsilon 1e-9 .. The iteration limit has no default here."
 abbrev pub by-default : (kernel limit : ℕ) → Settings
 by-default kernel limit = record {
-  kernel = kernel;
+  choice = Choice.by-default kernel limit;
   radius = one;
   eta = half-thousandth;
   factor = hundred-millionth;
   «tol_grad» = thousandth;
-  epsilon = billionth;
-  limit = limit;
 }
 
 -- in (0, top)
@@ -27,15 +24,14 @@ between x top = positive x && lt x top
 
 -- "Settings must be finite. Kernel 1 to 3 (Cauchy, Dogleg, Steihaug); radius .. > 0; .. eta of SR1 in (0, 0.01); denominator factor in (0, 1); tol_grad ≥ 0; epsilon > 0; Steihaug's iteration limit 0 to 10,000. SR1's radius is taken by magnitude first."
 unfoldable pub in-range : Settings → Bool
-unfolding positive finite magnitude
+unfolding Choice.in-range positive finite magnitude
 in-range t =
-    (leb 1 (t .kernel) && leb (t .kernel) 3)
+    Choice.in-range (t .choice)
     && positive (magnitude (t .radius))
     && between (t .eta) hundredth
     && between (t .factor) one
     && (finite (t .«tol_grad») && le nought (t .«tol_grad»))
-    && bounded (t .epsilon) (t .limit)
 
 -- the kernel of the settings
 abbrev pub chosen : Settings → Kernel
-chosen t = Choice.kernel (t .kernel) (t .epsilon) (t .limit)
+chosen t = Choice.kernel (t .choice)

@@ -1,4 +1,6 @@
 // What argmin's SR1TrustRegion is made with.
+use kernels::choice;
+use kernels::choice::Choice;
 use kernels::kernel;
 use offer::range;
 ghost use mathlib.Core.Path.{_≡_};
@@ -10,13 +12,11 @@ ghost use Rattle.sr1.specs.Settings as Definition;
 ghost use Rattle.sr1.specs.Settings.{by-default, in-range};
 
 pub struct Settings {
-    pub kernel: u64,
+    pub choice: Choice,
     pub radius: f64,
     pub eta: f64,
     pub factor: f64,
     pub tol_grad: f64,
-    pub epsilon: f64,
-    pub limit: u64,
 }
 
 impl Settings {
@@ -28,20 +28,17 @@ impl Settings {
 
     pub const TOL_GRAD: f64 = 1e-3;
 
-    pub const EPSILON: f64 = 1e-9;
-
     // The defaults for all but the kernel and Steihaug's iteration limit, which have none.
     pub fn new(kernel: u64, limit: u64) -> Self
         ensures { λ r. ⌜ r ≡ by-default kernel limit ⌝ }
     {
+        let choice = Choice::new(kernel, limit);
         Self {
-            kernel: kernel,
+            choice: choice,
             radius: Self::RADIUS,
             eta: Self::ETA,
             factor: Self::FACTOR,
             tol_grad: Self::TOL_GRAD,
-            epsilon: Self::EPSILON,
-            limit: limit,
         }
     }
 }
@@ -64,12 +61,18 @@ fn tolerance(x: f64) -> bool
 pub fn in_range(t: Settings) -> bool
     ensures { λ r. ⌜ r ≡ in-range t ⌝ }
 {
-    range::all(
-        range::known(t.kernel),
-        kernel::positive(float::magnitude(t.radius)),
-        between(t.eta, 0.01),
-        between(t.factor, 1.0),
-        tolerance(t.tol_grad),
-        kernel::bounded(t.epsilon, t.limit),
-    )
+    let choice = t.choice;
+    if !choice::in_range(choice) {
+        return false;
+    }
+    if !kernel::positive(float::magnitude(t.radius)) {
+        return false;
+    }
+    if !between(t.eta, 0.01) {
+        return false;
+    }
+    if !between(t.factor, 1.0) {
+        return false;
+    }
+    tolerance(t.tol_grad)
 }

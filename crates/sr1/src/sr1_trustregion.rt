@@ -86,9 +86,7 @@ fn stepped(
     let settings = s.settings;
     let radius = s.radius;
     let cost = s.cost;
-    let kernel = settings.kernel;
-    let epsilon = settings.epsilon;
-    let limit = settings.limit;
+    let choice = settings.choice;
     if radius == 0.0 {
         return After {
             session: s,
@@ -96,11 +94,9 @@ fn stepped(
         };
     }
     let offered = offer::make(
-        kernel,
+        choice,
         n,
         radius,
-        epsilon,
-        limit,
         point,
         gradient,
         hessian,

@@ -70,4 +70,4 @@ started-idle t f s = unless-elim (λ (a : Answer Session). a ≡ given s → T (
     same e = cc
 
 pub for-our-kernels : Demand-3 chosen
-for-our-kernels = for-proper chosen (λ t. kernel-proper (t .kernel) (t .epsilon) (t .limit))
+for-our-kernels = for-proper chosen (λ t. kernel-proper (t .choice))

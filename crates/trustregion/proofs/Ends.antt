@@ -11,15 +11,17 @@ use borrow.Author.Tests.{eqb-true}
 use Rattle.float.specs.Numbers.{_⊕_, _⊗_, finite}
 use Rattle.float.specs.Constants.{nought, half, quarter}
 use Rattle.vectors.specs.Refusal.{Answer, refused, given, Check, _if_, then, judged, size, sized}
-use Rattle.kernels.specs.Kernel.{positive, bounded}
+use Rattle.kernels.specs.Kernel.{positive}
+use Rattle.kernels.specs.Choice as Choice
 use Rattle.vectors.specs.declared.refusal.Refusal.{Refusal}
 use Rattle.vectors.specs.declared.refusal.Refusal.the-variants.{Size, Setting, Turn}
 use Rattle.vectors.specs.declared.refusal.Verdict.{Verdict}
 use Rattle.vectors.specs.declared.refusal.Verdict.the-variants.{Passed, Failed}
 use Rattle.vectors.proofs.Sizes.{both, vectors-true}
+use Rattle.kernels.proofs.Choices.{in-range-known}
 use Rattle.kernels.proofs.Kernels.{unless-passed, unless-failed, early, first-passed}
 use Rattle.offer.specs.Offer.{all-sized, steady, Offer, offer}
-use Rattle.offer.specs.Calls.{known, replaced, offering, Offers}
+use Rattle.offer.specs.Calls.{replaced, offering, Offers}
 use Rattle.offer.specs.declared.Offered.{Offered}
 use Rattle.offer.specs.declared.Offered.the-variants as offered
 use Rattle.offer.proofs.Lengths.{copied}
@@ -41,14 +43,14 @@ refusing s r = record { session = s; outcome = Refused r }
 -- ---- the proposal
 
 -- settings in range name a kernel
-kernel-known : (t : Settings) → in-range t ≡ true → known (t .kernel) ≡ true
+kernel-known : (t : Settings) → in-range t ≡ true → Choice.known (t .choice .kernel) ≡ true
 unfolding in-range
 kernel-known t e =
-    let a = known (t .kernel) in
+    let a = Choice.in-range (t .choice) in
     let b = positive (t .radius) in
     let c = positive (t .«max_radius») in
     let d = finite (t .eta) && le nought (t .eta) && lt (t .eta) quarter in
-    both a b (both (a && b) c (both (a && b && c) d (both (a && b && c && d) (bounded (t .epsilon) (t .limit)) e .0) .0) .0) .0
+    in-range-known (t .choice) (both a b (both (a && b) c (both (a && b && c) d e .0) .0) .0)
 
 -- v is the code's verdict on the checks
 module _ (s : Session) (n : ℕ) (point gradient hessian step trial scratch : List Float) (v : Verdict) (judges : v ≡ judged (proposal-checks s n point gradient hessian step trial scratch)) where
@@ -65,10 +67,10 @@ module _ (s : Session) (n : ℕ) (point gradient hessian step trial scratch : Li
       (record { says = refl; leaves-step = refl; leaves-trial = refl; leaves-scratch = rw (early checks r (refl, (refl, (refl, (refl, (refl, tt))))) (sym judges ∙ e)) })
 
   module _ (e : v ≡ Passed) (found : Offered) (step′ trial′ scratch′ : List Float)
-      (offers : Offers n gradient hessian (offering (s .settings .kernel) (s .settings .epsilon) (s .settings .limit) n (s .radius) point gradient hessian step trial scratch)
+      (offers : Offers n gradient hessian (offering (s .settings .choice) n (s .radius) point gradient hessian step trial scratch)
       found step trial scratch step′ trial′ scratch′) where
     abbrev answer : Answer Offer
-    answer = offering (s .settings .kernel) (s .settings .epsilon) (s .settings .limit) n (s .radius) point gradient hessian step trial scratch
+    answer = offering (s .settings .choice) n (s .radius) point gradient hessian step trial scratch
 
     -- the session's proposal follows what was offered
     follows : proposed ≡ then (λ (o : Offer). given (awaiting s n gradient hessian o)) answer
@@ -80,7 +82,7 @@ module _ (s : Session) (n : ℕ) (point gradient hessian step trial scratch : Li
         let kernel = kernel-known (s .settings) (both (in-range (s .settings)) (steady (s .radius) (s .cost)) right .0) in
         unless-passed checks (then (λ (o : Offer). given (awaiting s n gradient hessian o)) (then (offer n point) (chosen (s .settings) n (s .radius) gradient hessian))) (sym judges ∙ e)
         ∙ ap (then (λ (o : Offer). given (awaiting s n gradient hessian o)))
-        (sym (offers-kernel (s .settings .kernel) (s .settings .epsilon) (s .settings .limit) n (s .radius) point gradient hessian step trial scratch sizes kernel))
+        (sym (offers-kernel (s .settings .choice) n (s .radius) point gradient hessian step trial scratch sizes kernel))
 
     pub proposes-no-step : (r : Refusal) → found ≡ offered.Refused r → Proposes proposed s step trial scratch (refusing s r) step′ trial′ scratch′
     proposes-no-step r f =

@@ -2,7 +2,7 @@
 use mathlib.Core.Path.{_≡_, refl, sym, _∙_, subst}
 use mathlib.Core.Bool.{Bool, true, false, not, _&&_}
 use mathlib.Core.List.{List, [], _∷_}
-use lib.Dec.{T, leb}
+use lib.Dec.{T}
 use lib.Ieee.{Float, binary64, fits, lt, le}
 use lib.Ieee.Fits.{and-l, and-r}
 use Rattle.float.specs.Numbers.{_⊖_, _⊗_, finite, magnitude}
@@ -11,7 +11,8 @@ use Rattle.float.proofs.Order.{lt-real, le-lt-trans}
 use Rattle.float.proofs.Signs.{sub-above, div-above, smaller-le}
 use Rattle.float.proofs.Quarter.{quarter-within}
 use Rattle.vectors.specs.Refusal.{given}
-use Rattle.kernels.specs.Kernel.{Kernel, positive, bounded}
+use Rattle.kernels.specs.Kernel.{Kernel, positive}
+use Rattle.kernels.specs.Choice as Choice
 use Rattle.trustregion.specs.Settings.{in-range}
 use Rattle.offer.specs.Offer.{steady}
 use Rattle.trustregion.specs.Session.{sound, Promise, awaiting, rho, next-radius, settled}
@@ -32,10 +33,10 @@ bounds : (s : Session) → T (sound s) → Bounds (s .settings)
 unfolding sound in-range positive
 bounds s w =
     let t = s .settings in
-    let a = leb 1 (t .kernel) && leb (t .kernel) 3 && positive (t .radius) in
+    let a = Choice.in-range (t .choice) && positive (t .radius) in
     let b = positive (t .«max_radius») in
     let c = finite (t .eta) && le nought (t .eta) && lt (t .eta) quarter in
-    let abc : T (a && b && c) = and-l (a && b && c) (bounded (t .epsilon) (t .limit)) (and-l (in-range t) (steady (s .radius) (s .cost)) w) in
+    let abc : T (a && b && c) = and-l (in-range t) (steady (s .radius) (s .cost)) w in
     record {
       eta = and-r (finite (t .eta)) (le nought (t .eta)) (and-l (finite (t .eta) && le nought (t .eta)) (lt (t .eta) quarter) (and-r (a && b) c abc));
       max-radius = and-r (finite (t .«max_radius»)) (lt nought (t .«max_radius»)) (and-r a b (and-l (a && b) c abc));

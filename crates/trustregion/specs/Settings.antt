@@ -1,28 +1,26 @@
 -- The settings of `TrustRegion`: their defaults, their range and the kernel that they choose. Definitions only.
 use mathlib.Core.Bool.{Bool, _&&_}
 use Prim.Native.Nat.{ℕ}
-use lib.Dec.{leb}
 use lib.Ieee.{lt, le}
 use Rattle.float.specs.Numbers.{finite}
-use Rattle.float.specs.Constants.{nought, one, hundred, quarter, eighth, billionth}
-use Rattle.kernels.specs.Kernel.{Kernel, positive, bounded}
+use Rattle.float.specs.Constants.{nought, one, hundred, quarter, eighth}
+use Rattle.kernels.specs.Kernel.{Kernel, positive}
 use Rattle.kernels.specs.Choice as Choice
 use Rattle.trustregion.specs.declared.settings.Settings.{Settings}
 
 -- "The defaults belong to the settings themselves as fixed numbers: radius 1, max_radius 100, eta 0.125; .. epsilon 1e-9 .. The iteration limit has no default here."
 abbrev pub by-default : (kernel limit : ℕ) → Settings
-by-default kernel limit = record { kernel = kernel; radius = one; «max_radius» = hundred; eta = eighth; epsilon = billionth; limit = limit }
+by-default kernel limit = record { choice = Choice.by-default kernel limit; radius = one; «max_radius» = hundred; eta = eighth }
 
 -- "Settings must be finite. Kernel 1 to 3 (Cauchy, Dogleg, Steihaug); radius and max_radius > 0; eta of `TrustRegion` in [0, 0.25); .. epsilon > 0; Steihaug's iteration limit 0 to 10,000."
 unfoldable pub in-range : Settings → Bool
-unfolding positive finite
+unfolding Choice.in-range positive finite
 in-range t =
-    (leb 1 (t .kernel) && leb (t .kernel) 3)
+    Choice.in-range (t .choice)
     && positive (t .radius)
     && positive (t .«max_radius»)
     && (finite (t .eta) && le nought (t .eta) && lt (t .eta) quarter)
-    && bounded (t .epsilon) (t .limit)
 
 -- the kernel of the settings
 abbrev pub chosen : Settings → Kernel
-chosen t = Choice.kernel (t .kernel) (t .epsilon) (t .limit)
+chosen t = Choice.kernel (t .choice)

@@ -1,4 +1,6 @@
 // What argmin's TrustRegion is made with.
+use kernels::choice;
+use kernels::choice::Choice;
 use kernels::kernel;
 use offer::range;
 ghost use mathlib.Core.Path.{_≡_};
@@ -9,12 +11,10 @@ ghost use Rattle.float.specs.Constants.{nought, quarter};
 ghost use Rattle.trustregion.specs.Settings.{by-default, in-range};
 
 pub struct Settings {
-    pub kernel: u64,
+    pub choice: Choice,
     pub radius: f64,
     pub max_radius: f64,
     pub eta: f64,
-    pub epsilon: f64,
-    pub limit: u64,
 }
 
 impl Settings {
@@ -24,19 +24,16 @@ impl Settings {
 
     pub const ETA: f64 = 0.125;
 
-    pub const EPSILON: f64 = 1e-9;
-
     // The defaults for all but the kernel and Steihaug's iteration limit, which have none.
     pub fn new(kernel: u64, limit: u64) -> Self
         ensures { λ r. ⌜ r ≡ by-default kernel limit ⌝ }
     {
+        let choice = Choice::new(kernel, limit);
         Self {
-            kernel: kernel,
+            choice: choice,
             radius: Self::RADIUS,
             max_radius: Self::MAX_RADIUS,
             eta: Self::ETA,
-            epsilon: Self::EPSILON,
-            limit: limit,
         }
     }
 }
@@ -52,12 +49,15 @@ fn eta_in_range(eta: f64) -> bool
 pub fn in_range(t: Settings) -> bool
     ensures { λ r. ⌜ r ≡ in-range t ⌝ }
 {
-    range::all(
-        true,
-        range::known(t.kernel),
-        kernel::positive(t.radius),
-        kernel::positive(t.max_radius),
-        eta_in_range(t.eta),
-        kernel::bounded(t.epsilon, t.limit),
-    )
+    let choice = t.choice;
+    if !choice::in_range(choice) {
+        return false;
+    }
+    if !kernel::positive(t.radius) {
+        return false;
+    }
+    if !kernel::positive(t.max_radius) {
+        return false;
+    }
+    eta_in_range(t.eta)
 }

@@ -79,9 +79,7 @@ pub fn proposed(
     let settings = s.settings;
     let radius = s.radius;
     let cost = s.cost;
-    let kernel = settings.kernel;
-    let epsilon = settings.epsilon;
-    let limit = settings.limit;
+    let choice = settings.choice;
     let phase = s.phase;
     let sound = session::sound(s);
     let ready = session::is_ready(phase);
@@ -104,11 +102,9 @@ pub fn proposed(
         },
         Verdict::Passed => {
             let offered = offer::make(
-                kernel,
+                choice,
                 n,
                 radius,
-                epsilon,
-                limit,
                 point,
                 gradient,
                 hessian,

@@ -9,10 +9,14 @@ use Rattle.case.proofs.solve.Tie as tie
 returns : tie.Need-returns
 returns c =
     let ran = c .before .before .before .before in
-    let filled = ran .before .before .before .before .before .before .before .before .before .before .before in
+    let radius = ran .before .before .before .before .before in
+    let limit = radius .before in
+    let epsilon = limit .before in
+    let kernel = epsilon .before in
+    let filled = kernel .before .before .before in
     let start = filled .before .before .before .before .before .before .before .before .before .before .before in
-    run-read _ _ _ _ _ _ _ _ _ _ _ _ _ _ _ (start .pre .1) (start .pre .0 .long) (filled .before .before .before .before .fill .ensures) (filled .fill2 .ensures)
-    (ran .before .before .before .before .before .before .before .before .word .ensures) (ran .before .before .before .before .before .before .before .number .ensures) (ran .before .before .before .before .before .before .number2 .ensures) (ran .before .before .before .before .before .word2 .ensures) (ran .run .ensures)
+    run-read _ _ _ _ _ _ _ _ _ _ _ _ _ (start .pre) (filled .before .before .before .before .fill .ensures) (filled .fill2 .ensures)
+    (λ i. record { kernel = kernel .word .ensures i; epsilon = epsilon .number .ensures i; limit = limit .word2 .ensures i }) (radius .number2 .ensures) (ran .direct .ensures)
 
 pub solve-spec : {M : Type 1} → statement M
 solve-spec =

@@ -1,9 +1,12 @@
 -- `kernels::cauchypoint::cauchy_point` meets its contract. Assumes nothing.
 use borrow.Author.Needs.{needs}
-use Rattle.kernels.specs.Choice.{kernel}
+use Rattle.kernels.specs.Choice.{known, asked, kernel}
 use Rattle.kernels.proofs.cauchypoint.cauchy_point.Statement.{statement}
 use Rattle.kernels.proofs.cauchypoint.cauchy_point.Tie as tie
 
+returns : tie.Need-returns
+unfolding known asked kernel
+returns c = let asked = c .before .before .before .before in rw (asked .before .before .before .new .ensures) at (asked .direct .ensures)
+
 pub cauchy-point-spec : {M : Type 1} → statement M
-unfolding kernel
-cauchy-point-spec = tie.close (tie.spec (λ c κs. search needs) (λ c. search needs) (λ c. search needs) (λ c. c .before .before .before .before .direct .ensures))
+cauchy-point-spec = tie.close (tie.spec (λ c κs. search needs) (λ c κs. search needs) (λ c. search needs) (λ c. search needs) returns)

@@ -1,12 +1,9 @@
 -- `kernels::steihaug::steihaug` meets its contract. Assumes nothing.
 use borrow.Author.Needs.{needs}
-use Rattle.kernels.specs.Choice.{kernel}
+use Rattle.kernels.specs.Choice.{known, in-range, asked, kernel}
 use Rattle.kernels.proofs.steihaug.steihaug.Statement.{statement}
 use Rattle.kernels.proofs.steihaug.steihaug.Tie as tie
 
-returns : tie.Need-returns
-unfolding kernel
-returns c = let asked = c .before .before .before .before in rw (asked .before .before .before .bounded .ensures) at (asked .direct .ensures)
-
 pub steihaug-spec : {M : Type 1} → statement M
-steihaug-spec = tie.close (tie.spec (λ c κs. search needs) (λ c κs. search needs) (λ c. search needs) (λ c. search needs) returns)
+unfolding known in-range asked kernel
+steihaug-spec = tie.close (tie.spec (λ c κs. search needs) (λ c. search needs) (λ c. search needs) (λ c. c .before .before .before .before .direct .ensures))
