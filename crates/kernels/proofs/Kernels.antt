@@ -4,7 +4,7 @@ use mathlib.Core.Bool.{Bool, true, false, cond, not, _&&_}
 use mathlib.Core.List.{List, [], _∷_, _++_, append-nil}
 use Prim.Native.Nat.{ℕ, zero, suc, _+_, _*_, _-_, _≤_}
 use native.Mathlib.Omega.{arith}
-use lib.Dec.{eqb, leb}
+use lib.Dec.{eqb}
 use lib.ListN.{length, take, drop, length-drop, drop-of-length-le}
 use lib.Seq.{take-at, drop-at, take-all}
 use lib.Ieee.{Float}
@@ -14,7 +14,7 @@ use Rattle.float.specs.Constants.{nought}
 use Rattle.vectors.specs.Vector.{tab, zeros, all-finite}
 use Rattle.vectors.specs.Slots.{slot, Puts}
 use Rattle.kernels.specs.Workspace.{each}
-use Rattle.vectors.specs.Refusal.{Answer, refused, given, Check, _if_, unless, judged, then, number, size, sized, room, Square, Roomy}
+use Rattle.vectors.specs.Refusal.{Answer, refused, given, Check, _if_, unless, judged, then, untouched-by, size, sized, room, Square, Roomy}
 use Rattle.kernels.specs.Kernel.{Kernel, Made, made, handed-out, sound-step, positive, Proper, stepped, laid-out, Laid, handed-over, Took, kernel-checks, called}
 use Rattle.vectors.specs.declared.refusal.Refusal.{Refusal}
 use Rattle.vectors.specs.declared.refusal.Refusal.the-variants.{Size, Setting, Entry, Range}
@@ -46,16 +46,16 @@ pub unless-failed : {A : Type 0} (cs : List Check) (a : Answer A) (r : Refusal) 
 unless-failed [] a r e = cc
 unless-failed (c ∷ cs) a r e = failed-one (c .applies) (c .refusal) r (judged cs) (unless cs a) (unless-failed cs a r) e
 
--- checks that refuse by 1 to 5 alone, which leaves the scratch as it was
+-- checks whose refusals leave the scratch as it was
 abbrev pub Early : List Check → Type 0
 Early [] = Unit {0}
-Early (c ∷ cs) = (leb (number (c .refusal)) 5 ≡ true) × Early cs
+Early (c ∷ cs) = (untouched-by (c .refusal) ≡ true) × Early cs
 
-early-one : (b : Bool) (r s : Refusal) (v : Verdict) → leb (number r) 5 ≡ true → (v ≡ Failed s → leb (number s) 5 ≡ true) → cond b (Failed r) v ≡ Failed s → leb (number s) 5 ≡ true
+early-one : (b : Bool) (r s : Refusal) (v : Verdict) → untouched-by r ≡ true → (v ≡ Failed s → untouched-by s ≡ true) → cond b (Failed r) v ≡ Failed s → untouched-by s ≡ true
 early-one true r s v h f e = let same : s ≡ r = cc in rw same h
 early-one false r s v h f e = f e
 
-pub early : (cs : List Check) (r : Refusal) → Early cs → judged cs ≡ Failed r → leb (number r) 5 ≡ true
+pub early : (cs : List Check) (r : Refusal) → Early cs → judged cs ≡ Failed r → untouched-by r ≡ true
 early [] r h e = absurd (let z : _≡_ {A = ℕ} 0 1 = cc in omega arith)
 early (c ∷ cs) r h e = early-one (c .applies) (c .refusal) r (judged cs) (h .0) (early cs r (h .1)) e
 
@@ -100,9 +100,9 @@ module _ (settings : Bool) (n : ℕ) (radius : Float) (g H step w : List Float) 
 
 -- ---- the answers that a kernel may give
 
--- a refusal from 6 on
+-- a refusal that clears the scratch
 abbrev pub Late : {A : Type 0} → Answer A → Type 0
-Late (refused r) = leb (number r) 5 ≡ false
+Late (refused r) = untouched-by r ≡ false
 Late (given a) = Unit {0}
 
 pub then-late : {A B : Type 0} (f : A → Answer B) (o : Answer A) → Late o → ((a : A) → Late (f a)) → Late (then f o)

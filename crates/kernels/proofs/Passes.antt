@@ -1,7 +1,6 @@
 -- Laws of Steihaug's roots and passes. Assumes nothing.
 use mathlib.Core.Path.{_≡_, refl, sym, _∙_, ap, subst}
 use mathlib.Core.Bool.{Bool, true, false, cond, _&&_, _||_}
-use lib.Dec.{leb}
 use mathlib.Core.List.{List, [], _∷_, _++_, map}
 use Prim.Native.Nat.{ℕ, zero, suc, _+_, _*_, _-_, _<_, _≤_}
 use native.Mathlib.Numerals.{add-one}
@@ -16,7 +15,7 @@ use Rattle.root.specs.Root.{root}
 use Rattle.vectors.specs.Slots.{slot, Puts}
 use Rattle.vectors.specs.Vector.{dot, norm, times, weighted, scale, zeros}
 use Rattle.kernels.specs.Workspace.{each}
-use Rattle.vectors.specs.Refusal.{Answer, refused, given, then, number}
+use Rattle.vectors.specs.Refusal.{Answer, refused, given, then, untouched-by}
 use Rattle.vectors.specs.Calls.{tells}
 use Rattle.kernels.specs.Kernel.{Made, made, handed-out, Proper, Laid}
 use Rattle.kernels.specs.Steihaug.{roots, roots-at, listed, ahead, model, valued, lesser, any-nan, by-model, larger, largest-from, forward, State, Pass, stops, goes-on, after, stops-at, curved, crossing, onward, straight, pass, run, steihaug, start, state-in, Keeps}
@@ -286,7 +285,7 @@ forward-late ts = largest-late (refused Root) ts refl
 
 -- a pass that stops has n numbers to show, or such a refusal; one that goes on has n
 abbrev Fine : ℕ → Pass → Type 0
-Fine n (stops (refused r)) = leb (number r) 5 ≡ false
+Fine n (stops (refused r)) = untouched-by r ≡ false
 Fine n (stops (given v)) = length v ≡ n
 Fine n (goes-on st) = length (st .p) ≡ n
 

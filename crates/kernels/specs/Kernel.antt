@@ -9,7 +9,7 @@ use lib.Ieee.{Float, lt}
 use Rattle.float.specs.Numbers.{finite}
 use Rattle.float.specs.Constants.{nought}
 use Rattle.vectors.specs.Vector.{zeros, norm, all-finite}
-use Rattle.vectors.specs.Refusal.{Answer, refused, given, Check, _if_, unless, number, size, sized, room, left-in, scratch-after}
+use Rattle.vectors.specs.Refusal.{Answer, refused, given, Check, _if_, unless, untouched-by, size, sized, room, left-in, scratch-after}
 use Rattle.kernels.specs.declared.kernel.Stepped.{Stepped}
 use Rattle.kernels.specs.declared.kernel.Stepped.the-variants.{In, Refused}
 use Rattle.vectors.specs.declared.refusal.Refusal.the-variants.{Size, Setting, Entry, Range}
@@ -36,9 +36,9 @@ handed-out m = unless ((Range if not (sound-step (m .step))) ∷ []) (given m)
 abbrev pub Kernel : Type 0
 Kernel = ℕ → Float → List Float → List Float → Answer Made
 
--- how a kernel's answer may be: a step of n numbers, or a refusal from 6 on, after all checks
+-- how a kernel's answer may be: a step of n numbers, or a refusal after all checks, which clears the scratch
 abbrev pub Proper : ℕ → Answer Made → Type 0
-Proper n (refused r) = leb (number r) 5 ≡ false
+Proper n (refused r) = untouched-by r ≡ false
 Proper n (given m) = length (m .step) ≡ n
 
 -- ---- what a kernel says and leaves

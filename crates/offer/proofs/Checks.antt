@@ -4,12 +4,12 @@ use mathlib.Core.Bool.{Bool, true, false, not, cond}
 use mathlib.Core.List.{List, [], _∷_}
 use Prim.Native.Nat.{ℕ}
 use native.Mathlib.Omega.{arith}
-use lib.Dec.{T, leb}
+use lib.Dec.{T}
 use lib.ListN.{length}
 use lib.Ieee.{Float}
 use Rattle.float.specs.Constants.{nought}
 use Rattle.vectors.specs.Vector.{zeros}
-use Rattle.vectors.specs.Refusal.{Answer, refused, given, Check, unless, judged, then, number, scratch-after}
+use Rattle.vectors.specs.Refusal.{Answer, refused, given, Check, unless, judged, then, untouched-by, scratch-after}
 use Rattle.vectors.specs.declared.refusal.Refusal.{Refusal}
 use Rattle.vectors.specs.declared.refusal.Verdict.the-variants.{Passed, Failed}
 use Rattle.vectors.proofs.Vectors.{length-tab}
@@ -59,5 +59,5 @@ unfolding zeros
 zeros-length n = length-tab n (λ i. nought)
 
 pub scratch-length : {A : Type 0} (a : Answer A) (v : List Float) → length (scratch-after a v) ≡ length v
-scratch-length (refused r) v = cond-elim (λ (x : List Float). length x ≡ length v) (leb (number r) 5) {x = v} {y = zeros (length v)} refl (zeros-length (length v))
+scratch-length (refused r) v = cond-elim (λ (x : List Float). length x ≡ length v) (untouched-by r) {x = v} {y = zeros (length v)} refl (zeros-length (length v))
 scratch-length (given x) v = zeros-length (length v)

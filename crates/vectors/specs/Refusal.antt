@@ -85,9 +85,13 @@ abbrev pub left-in : {A B : Type 0} → (A → B) → Answer A → B → B
 left-in new (refused r) old = old
 left-in new (given a) old = new a
 
--- in the scratch: "untouched by 1 to 5; after any other call, refused or not, it holds +0 throughout"
+-- "Scratch is untouched by 1 to 5"
+abbrev pub untouched-by : Refusal → Bool
+untouched-by r = leb (number r) 5
+
+-- in the scratch; "after any other call, refused or not, it holds +0 throughout"
 abbrev pub scratch-after : {A : Type 0} → Answer A → List Float → List Float
-scratch-after (refused r) old = cond (leb (number r) 5) old (zeros (length old))
+scratch-after (refused r) old = cond (untouched-by r) old (zeros (length old))
 scratch-after (given a) old = zeros (length old)
 
 -- the answer that an outcome stands for, where the call left a

@@ -2,19 +2,18 @@
 use mathlib.Core.Path.{_≡_, refl, _∙_}
 use mathlib.Core.List.{List}
 use mathlib.Core.Bool.{false}
-use lib.Dec.{leb}
 use lib.ListN.{length}
 use lib.Ieee.{Float}
 use borrow.Author.Needs.{needs}
 use Rattle.vectors.specs.Vector.{zeros}
-use Rattle.vectors.specs.Refusal.{refused, number}
+use Rattle.vectors.specs.Refusal.{refused, untouched-by}
 use Rattle.vectors.specs.declared.refusal.Refusal.{Refusal}
 use Rattle.kernels.specs.Kernel.{Laid, stepped}
 use Rattle.kernels.proofs.steihaug.settle.Statement.{statement}
 use Rattle.kernels.proofs.steihaug.settle.Tie as tie
 
 -- a refusal after all checks leaves +0
-without-root : (r : Refusal) (w w′ : List Float) → leb (number r) 5 ≡ false → w′ ≡ zeros (length w) → Laid (refused r) (stepped (refused r)) w w′
+without-root : (r : Refusal) (w w′ : List Float) → untouched-by r ≡ false → w′ ≡ zeros (length w) → Laid (refused r) (stepped (refused r)) w w′
 without-root r w w′ late z = record { says = refl; lays = z ∙ rw late }
 
 returns : tie.Need-returns
