@@ -1,18 +1,18 @@
 -- A kernel called directly on a case's own lists gives what `run` says. Assumes nothing.
 use mathlib.Core.Path.{_≡_, _∙_, ap}
-use mathlib.Core.Bool.{true, _&&_}
-use mathlib.Core.List.{List}
+use mathlib.Core.Bool.{true}
+use mathlib.Core.List.{List, [], _∷_}
 use Prim.Native.Nat.{ℕ, _+_, _*_}
 use lib.ListN.{length}
 use lib.Ieee.{Float}
 use borrow.Author.Tests.{eq-eqb}
-use Rattle.vectors.specs.Refusal.{size, sized, room, Square, Roomy}
+use Rattle.vectors.specs.Refusal.{all-hold, size, sized, room, Square, Roomy}
 use Rattle.kernels.specs.Kernel.{called, Took}
 use Rattle.kernels.specs.Choice.{asked, kernel}
 use Rattle.kernels.specs.declared.choice.Choice.{Choice}
 use Rattle.kernels.specs.declared.kernel.Stepped.{Stepped}
 use Rattle.vectors.proofs.Vectors.{length-tab}
-use Rattle.vectors.proofs.Sizes.{square-test}
+use Rattle.vectors.proofs.Sizes.{size-test}
 use Rattle.case.specs.Case.{numbers, choice-of, radius-of, run}
 
 -- the sizes are right, so refusals 2 and 4 are left of its checks
@@ -21,7 +21,7 @@ run-called : (c : Choice) (n : ℕ) (radius : Float) (g H step w : List Float) (
     → Took (called (asked c) (kernel c) n radius g H step w) r step step′ w w′ → Took (run c n radius g H) r step step′ w w′
 unfolding called run
 run-called c n radius g H step w r step′ w′ square gradient long roomy h =
-    let sizes : (size n && sized (n * n) H && sized n g && sized n step && sized (room n) w) ≡ true = rw (square-test square, eq-eqb (length g) n gradient, eq-eqb (length step) n long, eq-eqb (length w) (room n) (roomy .long)) in
+    let sizes : all-hold (size n ∷ sized (n * n) H ∷ sized n g ∷ sized n step ∷ sized (room n) w ∷ []) ≡ true = rw (size-test square, eq-eqb (length H) (n * n) (square .long), eq-eqb (length g) n gradient, eq-eqb (length step) n long, eq-eqb (length w) (room n) (roomy .long)) in
     rw sizes at h
 
 numbers-long : (bytes : List ℕ) (i k : ℕ) → length (numbers bytes i k) ≡ k

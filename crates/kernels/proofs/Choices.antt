@@ -8,8 +8,8 @@ use lib.ListN.{length}
 use lib.Ieee.{Float}
 use borrow.Author.Tests.{eq-eqb, ne-eqb}
 use Rattle.vectors.specs.Vector.{all-finite}
-use Rattle.vectors.specs.Refusal.{Check, _if_, judged, size, sized, room}
-use Rattle.kernels.specs.Kernel.{positive, bounded, Proper, Laid, kernel-checks}
+use Rattle.vectors.specs.Refusal.{Check, _if_, judged, all-hold, size, sized, room}
+use Rattle.kernels.specs.Kernel.{positive, bounds, Proper, Laid, kernel-checks}
 use Rattle.kernels.specs.CauchyPoint.{cauchy-point}
 use Rattle.kernels.specs.Dogleg.{dogleg}
 use Rattle.kernels.specs.Steihaug.{steihaug}
@@ -20,7 +20,7 @@ use Rattle.vectors.specs.declared.refusal.Verdict.the-variants.{Passed}
 use Rattle.kernels.specs.declared.kernel.Stepped.{Stepped}
 use Rattle.kernels.specs.declared.kernel.Stepped.the-variants.{Refused}
 use Rattle.kernels.specs.declared.choice.Choice.{Choice}
-use Rattle.vectors.proofs.Sizes.{both, square-test}
+use Rattle.vectors.proofs.Sizes.{both, each-holds, size-test}
 use Rattle.kernels.proofs.Kernels.{Lent, first-passed}
 use Rattle.kernels.proofs.CauchyPoints.{cauchy-proper}
 use Rattle.kernels.proofs.Doglegs.{dogleg-proper}
@@ -39,7 +39,7 @@ kernel-proper c n radius g H = pick (eqb (c .kernel) 1) (eqb (c .kernel) 2) wher
 
 pub in-range-known : (c : Choice) → in-range c ≡ true → known (c .kernel) ≡ true
 unfolding in-range
-in-range-known c e = both (known (c .kernel)) (bounded (c .epsilon) (c .limit)) e .0
+in-range-known c e = each-holds (known (c .kernel) ∷ bounds (c .epsilon) (c .limit)) e .0
 
 asked-known : (c : Choice) → asked c ≡ true → known (c .kernel) ≡ true
 unfolding asked
@@ -56,33 +56,29 @@ second-passed false b q r cs e = cc
 pub checked-known : (c : Choice) (n : ℕ) (radius : Float) (g H step w : List Float) → judged (kernel-checks (asked c) n radius g H step w) ≡ Passed → known (c .kernel) ≡ true
 checked-known c n radius g H step w e =
     asked-known c (both (positive radius) (asked c)
-    (second-passed (size n && sized (n * n) H && sized n g && sized n step && sized (room n) w) (positive radius && asked c) Size Setting ((Entry if not (all-finite g && all-finite H)) ∷ []) e) .1)
+    (second-passed (all-hold (size n ∷ sized (n * n) H ∷ sized n g ∷ sized n step ∷ sized (room n) w ∷ [])) (positive radius && asked c) Size Setting ((Entry if not (all-finite g && all-finite H)) ∷ []) e) .1)
 
 -- ---- the door
 
-and-true : (b : Bool) → (b && true) ≡ b
-and-true true = refl
-and-true false = refl
-
 -- the sizes, where the length of a step is tested too and is n
-no-step : (n h g scratch : ℕ) → (size n && eqb h (n * n) && eqb g n && eqb n n && eqb scratch (room n)) ≡ (size n && eqb h (n * n) && eqb g n && eqb scratch (room n))
-no-step n h g scratch = rw (eq-eqb n n refl, and-true (size n && eqb h (n * n) && eqb g n))
+no-step : (n h g scratch : ℕ) → all-hold (size n ∷ eqb h (n * n) ∷ eqb g n ∷ eqb n n ∷ eqb scratch (room n) ∷ []) ≡ all-hold (size n ∷ eqb h (n * n) ∷ eqb g n ∷ eqb scratch (room n) ∷ [])
+no-step n h g scratch = rw (eq-eqb n n refl)
 
 module _ (c : Choice) (n : ℕ) (radius : Float) (g H w : List Float) where
   -- past the checks of a direct caller the door is open
   pub opened : {s : ℕ} → Lent n (length H) (length g) s (length w) → known (c .kernel) ≡ true → door c n radius g H w ≡ kernel c n radius g H
   unfolding door
-  opened l k = rw (square-test (l .square), eq-eqb (length g) n (l .gradient), eq-eqb (length w) (room n) (l .roomy .long), k)
+  opened l k = rw (size-test (l .square), eq-eqb (length H) (n * n) (l .square .long), eq-eqb (length g) n (l .gradient), eq-eqb (length w) (room n) (l .roomy .long), k)
 
   abbrev sizes : Bool
-  sizes = size n && sized (n * n) H && sized n g && eqb n n && sized (room n) w
+  sizes = all-hold (size n ∷ sized (n * n) H ∷ sized n g ∷ eqb n n ∷ sized (room n) w ∷ [])
 
   pub shut-size : sizes ≡ false → Laid (door c n radius g H w) (Refused Size) w w
   unfolding door
   shut-size e = rw (sym (no-step n (length H) (length g) (length w)) ∙ e) (record { says = refl; lays = refl })
 
   module _ (e : sizes ≡ true) where
-    fits : (size n && sized (n * n) H && sized n g && sized (room n) w) ≡ true
+    fits : all-hold (size n ∷ sized (n * n) H ∷ sized n g ∷ sized (room n) w ∷ []) ≡ true
     fits = sym (no-step n (length H) (length g) (length w)) ∙ e
 
     pub shut-kernel : known (c .kernel) ≡ false → Laid (door c n radius g H w) (Refused Setting) w w

@@ -1,16 +1,16 @@
 -- How the inverse ends, over the values. Assumes nothing.
 use mathlib.Core.Path.{_≡_, refl, _∙_, ap}
-use mathlib.Core.Bool.{Bool, true, false, not, _&&_}
-use mathlib.Core.List.{List}
+use mathlib.Core.Bool.{Bool, true, false, not}
+use mathlib.Core.List.{List, [], _∷_}
 use Prim.Native.Nat.{ℕ, _*_}
 use lib.Dec.{eqb}
 use lib.ListN.{length}
 use lib.Ieee.{Float}
 use borrow.Author.Tests.{eqb-true}
 use Rattle.vectors.specs.Vector.{zeros, flat, all-finite}
-use Rattle.vectors.specs.Refusal.{Answer, given, size, sized, room, Roomy, Ended}
+use Rattle.vectors.specs.Refusal.{Answer, given, all-hold, size, sized, room, Roomy, Ended}
 use Rattle.kernels.specs.Inverse.{Rows, found, start, columns, eliminated, right-row, inverse-answer}
-use Rattle.vectors.proofs.Sizes.{both, square-true}
+use Rattle.vectors.proofs.Sizes.{each-holds, square-by}
 use Rattle.kernels.proofs.Rows.{found-none, found-rows}
 use Rattle.vectors.specs.declared.refusal.Refusal.the-variants.{Size, Entry, Pivot}
 use Rattle.vectors.specs.declared.refusal.Outcome.the-variants.{Written, Refused}
@@ -23,12 +23,11 @@ pub record Lent (n h out scratch : ℕ) : Type 0 where
   pub written : out ≡ n * n
   pub roomy : Roomy n scratch
 
-pub lent-true : (n h out scratch : ℕ) → (size n && eqb h (n * n) && eqb out (n * n) && eqb scratch (room n)) ≡ true → Lent n h out scratch
+pub lent-true : (n h out scratch : ℕ) → all-hold (size n ∷ eqb h (n * n) ∷ eqb out (n * n) ∷ eqb scratch (room n) ∷ []) ≡ true → Lent n h out scratch
 lent-true n h out scratch e =
-    let p = both (size n && eqb h (n * n) && eqb out (n * n)) (eqb scratch (room n)) e in
-    let q = both (size n && eqb h (n * n)) (eqb out (n * n)) (p .0) in
-    let s = square-true n h (q .0) in
-    record { square = s .long; written = eqb-true out (n * n) (q .1); roomy = record { high = s .high; long = eqb-true scratch (room n) (p .1) } }
+    let t = each-holds (size n ∷ eqb h (n * n) ∷ eqb out (n * n) ∷ eqb scratch (room n) ∷ []) e in
+    let s = square-by n h (t .0) (t .1 .0) in
+    record { square = s .long; written = eqb-true out (n * n) (t .1 .1 .0); roomy = record { high = s .high; long = eqb-true scratch (room n) (t .1 .1 .1 .0) } }
 
 pub eliminates : (n : ℕ) (H : List Float) (R : Rows) (o : Answer Rows) → R ≡ start n H → o ≡ columns n n 0 R → o ≡ eliminated n H
 unfolding eliminated
@@ -37,7 +36,7 @@ eliminates n H R o e f = f ∙ ap (columns n n 0) e
 -- its four ends
 module _ (n : ℕ) (H out w : List Float) where
   abbrev sizes : Bool
-  sizes = size n && sized (n * n) H && sized (n * n) out && sized (room n) w
+  sizes = all-hold (size n ∷ sized (n * n) H ∷ sized (n * n) out ∷ sized (room n) w ∷ [])
 
   pub bad-size : sizes ≡ false → Ended (inverse-answer n H out w) (Refused Size) out out w w
   unfolding inverse-answer

@@ -14,7 +14,7 @@ use Rattle.float.specs.Constants.{nought}
 use Rattle.vectors.specs.Vector.{tab, zeros, all-finite}
 use Rattle.vectors.specs.Slots.{slot, Puts}
 use Rattle.kernels.specs.Workspace.{each}
-use Rattle.vectors.specs.Refusal.{Answer, refused, given, Check, _if_, unless, judged, then, untouched-by, size, sized, room, Square, Roomy}
+use Rattle.vectors.specs.Refusal.{Answer, refused, given, Check, _if_, unless, judged, then, all-hold, untouched-by, size, sized, room, Square, Roomy}
 use Rattle.kernels.specs.Kernel.{Kernel, Made, made, handed-out, sound-step, positive, Proper, stepped, laid-out, Laid, handed-over, Took, kernel-checks, called}
 use Rattle.vectors.specs.declared.refusal.Refusal.{Refusal}
 use Rattle.vectors.specs.declared.refusal.Refusal.the-variants.{Size, Setting, Entry, Range}
@@ -25,7 +25,7 @@ use Rattle.kernels.specs.declared.kernel.Stepped.the-variants.{In, Refus
 use Rattle.kernels.specs.declared.workspace.Op.the-variants.{Same}
 use Rattle.kernels.proofs.Ops.{each-same}
 use Rattle.vectors.proofs.Slots.{length-slot}
-use Rattle.vectors.proofs.Sizes.{both, shaped-true}
+use Rattle.vectors.proofs.Sizes.{each-holds, square-by}
 use Rattle.kernels.proofs.Rows.{low-room}
 
 -- ---- a list of checks, and the verdict on it
@@ -71,11 +71,16 @@ pub record Lent (n h g s scratch : ℕ) : Type 0 where
   pub step : s ≡ n
   pub roomy : Roomy n scratch
 
-pub lent-true : (n h g step scratch : ℕ) → (size n && eqb h (n * n) && eqb g n && eqb step n && eqb scratch (room n)) ≡ true → Lent n h g step scratch
+pub lent-true : (n h g step scratch : ℕ) → all-hold (size n ∷ eqb h (n * n) ∷ eqb g n ∷ eqb step n ∷ eqb scratch (room n) ∷ []) ≡ true → Lent n h g step scratch
 lent-true n h g step scratch e =
-    let p = both (size n && eqb h (n * n) && eqb g n && eqb step n) (eqb scratch (room n)) e in
-    let s = shaped-true n h g step (p .0) in
-    record { square = s .square; gradient = s .first; step = s .second; roomy = record { high = s .square .high; long = eqb-true scratch (room n) (p .1) } }
+    let t = each-holds (size n ∷ eqb h (n * n) ∷ eqb g n ∷ eqb step n ∷ eqb scratch (room n) ∷ []) e in
+    let square = square-by n h (t .0) (t .1 .0) in
+    record {
+      square = square;
+      gradient = eqb-true g n (t .1 .1 .0);
+      step = eqb-true step n (t .1 .1 .1 .0);
+      roomy = record { high = square .high; long = eqb-true scratch (room n) (t .1 .1 .1 .1 .0) };
+    }
 
 -- what `lay` and `hand_over` ask of it
 pub lay-ready : {n h g s scratch : ℕ} → Lent n h g s scratch → Square n h × (g ≡ n) × Roomy n scratch
@@ -89,7 +94,7 @@ module _ (settings : Bool) (n : ℕ) (radius : Float) (g H step w : List Float) 
   pub lent : v ≡ Passed → Lent n (length H) (length g) (length step) (length w)
   lent e =
       lent-true n (length H) (length g) (length step) (length w)
-      (first-passed (size n && sized (n * n) H && sized n g && sized n step && sized (room n) w) Size ((Setting if not (positive radius && settings)) ∷ (Entry if not (all-finite g && all-finite H)) ∷ []) (sym judges ∙ e))
+      (first-passed (all-hold (size n ∷ sized (n * n) H ∷ sized n g ∷ sized n step ∷ sized (room n) w ∷ [])) Size ((Setting if not (positive radius && settings)) ∷ (Entry if not (all-finite g && all-finite H)) ∷ []) (sym judges ∙ e))
 
   -- a kernel that they end
   pub took-none : (kernel : Kernel) (r : Refusal) → v ≡ Failed r → Took (called settings kernel n radius g H step w) (Refused r) step step w w

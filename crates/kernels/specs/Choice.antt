@@ -5,8 +5,8 @@ use Prim.Native.Nat.{ℕ, _*_}
 use lib.Dec.{eqb, leb}
 use lib.Ieee.{Float}
 use Rattle.float.specs.Constants.{billionth}
-use Rattle.vectors.specs.Refusal.{Answer, Check, _if_, unless, size, sized, room}
-use Rattle.kernels.specs.Kernel.{Kernel, Made, positive, bounded}
+use Rattle.vectors.specs.Refusal.{Answer, Check, _if_, unless, all-hold, size, sized, room}
+use Rattle.kernels.specs.Kernel.{Kernel, Made, positive, bounds}
 use Rattle.kernels.specs.CauchyPoint.{cauchy-point}
 use Rattle.kernels.specs.Dogleg.{dogleg}
 use Rattle.kernels.specs.Steihaug.{steihaug}
@@ -24,7 +24,7 @@ known kernel = leb 1 kernel && leb kernel 3
 -- "Kernel 1 to 3 ..; epsilon > 0; Steihaug's iteration limit 0 to 10,000", whatever the kernel
 unfoldable pub in-range : Choice → Bool
 unfolding known positive
-in-range c = known (c .kernel) && bounded (c .epsilon) (c .limit)
+in-range c = all-hold (known (c .kernel) ∷ bounds (c .epsilon) (c .limit))
 
 -- what a kernel that is called directly asks: "epsilon and limit are checked for kernel 3 only"
 unfoldable pub asked : Choice → Bool
@@ -40,7 +40,7 @@ kernel c = cond (eqb (c .kernel) 1) cauchy-point (cond (eqb (c .kernel) 2) dogle
 
 abbrev pub door-checks : Choice → ℕ → (g H scratch : List Float) → List Check
 door-checks c n g H scratch =
-    (Size if not (size n && sized (n * n) H && sized n g && sized (room n) scratch))
+    (Size if not (all-hold (size n ∷ sized (n * n) H ∷ sized n g ∷ sized (room n) scratch ∷ [])))
     ∷ (Setting if not (known (c .kernel)))
     ∷ []
 

@@ -1,5 +1,5 @@
 -- "Inverse: Gauss-Jordan on [H | I]." Definitions only.
-use mathlib.Core.Bool.{Bool, cond, not, _&&_}
+use mathlib.Core.Bool.{Bool, cond, not}
 use mathlib.Core.List.{List, [], _∷_}
 use Prim.Native.Nat.{ℕ, zero, suc, _+_, _*_, _-_}
 use lib.Dec.{eqb, ltb}
@@ -8,7 +8,7 @@ use Rattle.float.specs.Numbers.{magnitude}
 use Rattle.float.specs.Constants.{nought, one}
 use Rattle.vectors.specs.Slots.{slot}
 use Rattle.vectors.specs.Vector.{at, tab, over, less, dot, flat, all-finite}
-use Rattle.vectors.specs.Refusal.{Answer, refused, given, Check, _if_, unless, then, size, sized, room}
+use Rattle.vectors.specs.Refusal.{Answer, refused, given, Check, _if_, unless, then, all-hold, size, sized, room}
 use Rattle.vectors.specs.declared.refusal.Refusal.the-variants.{Size, Entry, Pivot}
 
 -- The rows under way. Row i has 2·n numbers: a row of the left half, and the same row of the right half.
@@ -104,7 +104,7 @@ inverse-times n R g = tab n (inverse-times-at n R g)
 
 abbrev pub inverse-checks : ℕ → (H out scratch : List Float) → List Check
 inverse-checks n H out scratch =
-    (Size if not (size n && sized (n * n) H && sized (n * n) out && sized (room n) scratch))
+    (Size if not (all-hold (size n ∷ sized (n * n) H ∷ sized (n * n) out ∷ sized (room n) scratch ∷ [])))
     ∷ (Entry if not (all-finite H))
     ∷ []
 

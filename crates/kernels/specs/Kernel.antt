@@ -9,7 +9,7 @@ use lib.Ieee.{Float, lt}
 use Rattle.float.specs.Numbers.{finite}
 use Rattle.float.specs.Constants.{nought}
 use Rattle.vectors.specs.Vector.{zeros, norm, all-finite}
-use Rattle.vectors.specs.Refusal.{Answer, refused, given, Check, _if_, unless, untouched-by, size, sized, room, left-in, scratch-after}
+use Rattle.vectors.specs.Refusal.{Answer, refused, given, Check, _if_, unless, all-hold, untouched-by, size, sized, room, left-in, scratch-after}
 use Rattle.kernels.specs.declared.kernel.Stepped.{Stepped}
 use Rattle.kernels.specs.declared.kernel.Stepped.the-variants.{In, Refused}
 use Rattle.vectors.specs.declared.refusal.Refusal.the-variants.{Size, Setting, Entry, Range}
@@ -74,14 +74,17 @@ unfoldable pub positive : Float → Bool
 unfolding finite
 positive x = finite x && lt nought x
 
--- Steihaug's epsilon, and its "iteration limit 0 to 10,000"
+-- "epsilon > 0; Steihaug's iteration limit 0 to 10,000"
+abbrev pub bounds : Float → ℕ → List Bool
+bounds epsilon limit = positive epsilon ∷ leb limit 10000 ∷ []
+
 abbrev pub bounded : Float → ℕ → Bool
-bounded epsilon limit = positive epsilon && leb limit 10000
+bounded epsilon limit = all-hold (bounds epsilon limit)
 
 -- `settings` is what the kernel asks of its settings beside the radius
 abbrev pub kernel-checks : Bool → ℕ → Float → (g H step scratch : List Float) → List Check
 kernel-checks settings n radius g H step scratch =
-    (Size if not (size n && sized (n * n) H && sized n g && sized n step && sized (room n) scratch))
+    (Size if not (all-hold (size n ∷ sized (n * n) H ∷ sized n g ∷ sized n step ∷ sized (room n) scratch ∷ [])))
     ∷ (Setting if not (positive radius && settings))
     ∷ (Entry if not (all-finite g && all-finite H))
     ∷ []

@@ -4,6 +4,7 @@ use crate::dogleg;
 use crate::kernel;
 use crate::kernel::Stepped;
 use crate::steihaug;
+use vectors::refusal;
 use vectors::refusal::Refusal;
 use vectors::refusal::Verdict;
 ghost use mathlib.Core.Path.{_≡_};
@@ -47,10 +48,13 @@ fn known(kernel: u64) -> bool
 pub fn in_range(choice: Choice) -> bool
     ensures { λ r. ⌜ r ≡ in-range choice ⌝ }
 {
-    if !known(choice.kernel) {
-        return false;
-    }
-    kernel::bounded(choice.epsilon, choice.limit)
+    refusal::all_hold(
+        &[
+            known(choice.kernel),
+            kernel::positive(choice.epsilon),
+            choice.limit <= 10000,
+        ],
+    )
 }
 
 // What a kernel that is called directly asks of it: only Steihaug looks at epsilon and the limit.

@@ -7,13 +7,13 @@ use vectors::refusal::Outcome;
 use vectors::refusal::Refusal;
 use vectors::vector;
 ghost use mathlib.Core.Path.{_≡_};
-ghost use mathlib.Core.Bool.{_&&_};
+ghost use mathlib.Core.List.{[], _∷_};
 ghost use Prim.Native.Nat.{_+_, _*_, _<_, _≤_};
 ghost use lib.Dec.{eqb};
 ghost use lib.ListN.{length};
 ghost use Rattle.vectors.specs.Vector.{tab, flat};
 ghost use Rattle.vectors.specs.Slots.{slot, Puts};
-ghost use Rattle.vectors.specs.Refusal.{size, room, Roomy, Ended};
+ghost use Rattle.vectors.specs.Refusal.{all-hold, size, room, Roomy, Ended};
 ghost use Rattle.kernels.specs.Inverse as Inverse;
 
 // Number k of row i of [H | I].
@@ -187,15 +187,12 @@ fn hand_out(n: usize, w: &[f64], out: &mut [f64])
 
 // n and the lengths of the matrix, of what takes its inverse and of the scratch are right.
 fn sized(n: usize, h: usize, out: usize, scratch: usize) -> bool
-    ensures { λ r. ⌜ r ≡ (size n && eqb h (n * n) && eqb out (n * n) && eqb scratch (room n)) ⌝ }
+    ensures { λ r. ⌜ r ≡ all-hold (size n ∷ eqb h (n * n) ∷ eqb out (n * n) ∷ eqb scratch (room n) ∷ []) ⌝ }
 {
-    if !refusal::matrix(n, h) {
+    if !refusal::size(n) {
         return false;
     }
-    if out != n * n {
-        return false;
-    }
-    scratch == 2 * (n * n) + 8 * n
+    refusal::all_hold(&[h == n * n, out == n * n, scratch == 2 * (n * n) + 8 * n])
 }
 
 // The inverse of h, into out.

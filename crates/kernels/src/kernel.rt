@@ -7,14 +7,14 @@ use vectors::refusal::Verdict;
 use vectors::vector;
 ghost use mathlib.Core.Path.{_≡_};
 ghost use mathlib.Core.Bool.{_&&_};
-ghost use mathlib.Core.List.{List, _++_};
+ghost use mathlib.Core.List.{List, [], _∷_, _++_};
 ghost use Prim.Native.Nat.{_+_, _*_, _≤_};
 ghost use lib.Dec.{eqb};
 ghost use lib.ListN.{length, drop};
 ghost use lib.Ieee.{Float};
 ghost use Rattle.vectors.specs.Vector.{zeros};
 ghost use Rattle.vectors.specs.Slots.{slot};
-ghost use Rattle.vectors.specs.Refusal.{size, room, judged};
+ghost use Rattle.vectors.specs.Refusal.{all-hold, size, room, judged};
 ghost use Rattle.kernels.specs.Kernel as Kernel;
 ghost use Rattle.kernels.specs.Kernel.{made, handed-out, handed-over, kernel-checks, Laid};
 
@@ -34,16 +34,6 @@ pub fn positive(x: f64) -> bool
     0.0 < x
 }
 
-// Steihaug's epsilon and iteration limit.
-pub fn bounded(epsilon: f64, limit: u64) -> bool
-    ensures { λ r. ⌜ r ≡ Kernel.bounded epsilon limit ⌝ }
-{
-    if !positive(epsilon) {
-        return false;
-    }
-    limit <= 10000
-}
-
 // Every number of a step is finite, and so is its norm.
 pub(crate) fn sound_step(v: &[f64]) -> bool
     ensures { λ r. ⌜ r ≡ Kernel.sound-step (now (v .entry)) ⌝ }
@@ -56,12 +46,19 @@ pub(crate) fn sound_step(v: &[f64]) -> bool
 
 // The lengths of a kernel's matrix, gradient, step and scratch.
 pub(crate) fn sized(n: usize, h: usize, g: usize, step: usize, scratch: usize) -> bool
-    ensures { λ r. ⌜ r ≡ (size n && eqb h (n * n) && eqb g n && eqb step n && eqb scratch (room n)) ⌝ }
+    ensures { λ r. ⌜ r ≡ all-hold (size n ∷ eqb h (n * n) ∷ eqb g n ∷ eqb step n ∷ eqb scratch (room n) ∷ []) ⌝ }
 {
-    if !refusal::shaped(n, h, g, step) {
+    if !refusal::size(n) {
         return false;
     }
-    scratch == 2 * (n * n) + 8 * n
+    refusal::all_hold(
+        &[
+            h == n * n,
+            g == n,
+            step == n,
+            scratch == 2 * (n * n) + 8 * n,
+        ],
+    )
 }
 
 // The radius, and what the kernel asks of its settings beside it.

@@ -1,24 +1,16 @@
 -- Laws of the lengths of what a call was lent. Assumes nothing.
 use mathlib.Core.Path.{_≡_}
-use mathlib.Core.Bool.{true, _&&_}
-use mathlib.Core.List.{List}
+use mathlib.Core.Bool.{true}
+use mathlib.Core.List.{List, [], _∷_}
 use Prim.Native.Nat.{ℕ, _+_, _*_, _≤_}
 use native.Mathlib.Omega.{arith}
 use lib.Dec.{eqb}
 use lib.ListN.{length}
 use lib.Ieee.{Float}
 use borrow.Author.Tests.{eqb-true, eq-eqb}
-use Rattle.vectors.specs.Refusal.{size, room, Square}
+use Rattle.vectors.specs.Refusal.{all-hold, size, room, Square}
 use Rattle.offer.specs.Calls.{replaced}
-use Rattle.vectors.proofs.Sizes.{both, size-true, square-small}
-
-pub small-vectors : (n a b : ℕ) → (size n && eqb a n && eqb b n) ≡ true → (n * n ≤ 4096) × (n ≤ 64)
-small-vectors n a b e =
-    let s = size-true n (both (size n) (eqb a n) (both (size n && eqb a n) (eqb b n) e .0) .0) in
-    (square-small n (s .1), s .1)
-
-pub small-derivatives : (n a b h : ℕ) → (size n && eqb a n && eqb b n && eqb h (n * n)) ≡ true → (n * n ≤ 4096) × (n ≤ 64)
-small-derivatives n a b h e = small-vectors n a b (both (size n && eqb a n && eqb b n) (eqb h (n * n)) e .0)
+use Rattle.vectors.proofs.Sizes.{each-holds, square-by}
 
 -- what a proposal was lent, where all its sizes are right
 pub record Lent (n x g h p t w : ℕ) : Type 0 where
@@ -29,22 +21,17 @@ pub record Lent (n x g h p t w : ℕ) : Type 0 where
   pub trial : t ≡ n
   pub scratch : w ≡ room n
 
-pub lent-true : (n x g h p t w : ℕ) → (size n && eqb x n && eqb g n && eqb h (n * n) && eqb p n && eqb t n && eqb w (room n)) ≡ true → Lent n x g h p t w
+pub lent-true : (n x g h p t w : ℕ) → all-hold (size n ∷ eqb x n ∷ eqb g n ∷ eqb h (n * n) ∷ eqb p n ∷ eqb t n ∷ eqb w (room n) ∷ []) ≡ true → Lent n x g h p t w
 lent-true n x g h p t w e =
-    let six = both (size n && eqb x n && eqb g n && eqb h (n * n) && eqb p n && eqb t n) (eqb w (room n)) e in
-    let five = both (size n && eqb x n && eqb g n && eqb h (n * n) && eqb p n) (eqb t n) (six .0) in
-    let four = both (size n && eqb x n && eqb g n && eqb h (n * n)) (eqb p n) (five .0) in
-    let three = both (size n && eqb x n && eqb g n) (eqb h (n * n)) (four .0) in
-    let two = both (size n && eqb x n) (eqb g n) (three .0) in
-    let one = both (size n) (eqb x n) (two .0) in
-    let s = size-true n (one .0) in
+    let a = each-holds (size n ∷ eqb x n ∷ eqb g n ∷ eqb h (n * n) ∷ eqb p n ∷ eqb t n ∷ eqb w (room n) ∷ []) e in
+    let b = a .1 .1 .1 in
     record {
-      point = eqb-true x n (one .1);
-      gradient = eqb-true g n (two .1);
-      square = record { low = s .0; high = s .1; long = eqb-true h (n * n) (three .1) };
-      step = eqb-true p n (four .1);
-      trial = eqb-true t n (five .1);
-      scratch = eqb-true w (room n) (six .1);
+      point = eqb-true x n (a .1 .0);
+      gradient = eqb-true g n (a .1 .1 .0);
+      square = square-by n h (a .0) (b .0);
+      step = eqb-true p n (b .1 .0);
+      trial = eqb-true t n (b .1 .1 .0);
+      scratch = eqb-true w (room n) (b .1 .1 .1 .0);
     }
 
 -- what `hand_out` asks of it: the scratch has room for the step and the trial

@@ -1,7 +1,7 @@
 -- How a step is offered, over the values. Assumes nothing.
 use mathlib.Core.Path.{_≡_, refl, sym, _∙_, ap}
-use mathlib.Core.Bool.{Bool, true, false, cond, not, _&&_}
-use mathlib.Core.List.{List, _++_}
+use mathlib.Core.Bool.{Bool, true, false, cond, not}
+use mathlib.Core.List.{List, [], _∷_, _++_}
 use Prim.Native.Nat.{ℕ, _+_, _*_, _-_, _≤_}
 use native.Mathlib.Omega.{arith}
 use lib.ListN.{length, take, drop}
@@ -10,7 +10,7 @@ use lib.Ieee.{Float}
 use borrow.Author.Tests.{eq-eqb}
 use Rattle.vectors.specs.Vector.{plus, zeros, all-finite}
 use Rattle.vectors.specs.Slots.{slot, Puts}
-use Rattle.vectors.specs.Refusal.{Answer, refused, given, then, size, sized, room, scratch-after}
+use Rattle.vectors.specs.Refusal.{Answer, refused, given, then, all-hold, size, sized, room, scratch-after}
 use Rattle.kernels.specs.Kernel.{Made, made, Proper, Laid}
 use Rattle.kernels.specs.Choice.{known, kernel, door}
 use Rattle.kernels.specs.declared.choice.Choice.{Choice}
@@ -19,7 +19,7 @@ use Rattle.vectors.specs.declared.refusal.Refusal.the-variants.{Size, Setting, 
 use Rattle.kernels.specs.declared.kernel.Stepped.{Stepped}
 use Rattle.kernels.specs.declared.kernel.Stepped.the-variants as stepped
 use Rattle.vectors.proofs.Slots.{length-slot}
-use Rattle.vectors.proofs.Sizes.{square-test}
+use Rattle.vectors.proofs.Sizes.{size-test}
 use Rattle.kernels.proofs.Choices.{kernel-proper}
 use Rattle.offer.specs.Offer.{all-sized, Offer, offered, offer}
 use Rattle.offer.specs.Calls.{replaced, offering, measured, Offers}
@@ -94,7 +94,7 @@ module _ (c : Choice) (n : ℕ) (radius : Float) (point g H step trial w : List 
   door-long : (m : Made) → door c n radius g H w ≡ given m → length (m .step) ≡ n
   unfolding door
   door-long m e =
-      given-long n (not (size n && sized (n * n) H && sized n g && sized (room n) w)) (not (known (c .kernel)))
+      given-long n (not (all-hold (size n ∷ sized (n * n) H ∷ sized n g ∷ sized (room n) w ∷ []))) (not (known (c .kernel)))
       (kernel c n radius g H) m (kernel-proper c n radius g H) e
 
   pub no-size : all-sized n point g H step trial w ≡ false
@@ -113,7 +113,7 @@ module _ (c : Choice) (n : ℕ) (radius : Float) (point g H step trial w : List 
     unfolding door
     offers-kernel k =
         let l = lent-true n (length point) (length g) (length H) (length step) (length trial) (length w) e in
-        opens ∙ rw (square-test (l .square), eq-eqb (length g) n (l .gradient), eq-eqb (length w) (room n) (l .scratch), k)
+        opens ∙ rw (size-test (l .square), eq-eqb (length H) (n * n) (l .square .long), eq-eqb (length g) n (l .gradient), eq-eqb (length w) (room n) (l .scratch), k)
 
     module _ (found : Stepped) (w₁ : List Float) (laid : Laid (door c n radius g H w) found w w₁) where
       pub no-step : (r : Refusal) → found ≡ stepped.Refused r

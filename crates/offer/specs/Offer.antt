@@ -1,23 +1,23 @@
 -- What every session that offers a step shares. Definitions only.
-use mathlib.Core.Bool.{Bool, not, _&&_}
+use mathlib.Core.Bool.{Bool, not}
 use mathlib.Core.List.{List, [], _∷_}
 use Prim.Native.Nat.{ℕ, _*_}
 use lib.Ieee.{Float, le}
 use Rattle.float.specs.Numbers.{finite}
 use Rattle.float.specs.Constants.{nought}
 use Rattle.vectors.specs.Vector.{plus, all-finite}
-use Rattle.vectors.specs.Refusal.{Answer, given, Check, _if_, unless, size, sized, room}
+use Rattle.vectors.specs.Refusal.{Answer, given, Check, _if_, unless, all-hold, size, sized, room}
 use Rattle.kernels.specs.Kernel.{Made}
 use Rattle.vectors.specs.declared.refusal.Refusal.the-variants.{Range}
 
 -- "n is 1 to 64. Vectors have n numbers, matrices n·n by rows, scratch 2·n·n + 8·n, each exactly."
 abbrev pub all-sized : ℕ → (point gradient hessian step trial scratch : List Float) → Bool
 all-sized n point gradient hessian step trial scratch =
-    size n && sized n point && sized n gradient && sized (n * n) hessian && sized n step && sized n trial && sized (room n) scratch
+    all-hold (size n ∷ sized n point ∷ sized n gradient ∷ sized (n * n) hessian ∷ sized n step ∷ sized n trial ∷ sized (room n) scratch ∷ [])
 
 -- not "a session with negative or not finite radius, or cost not finite"
 abbrev pub steady : (radius cost : Float) → Bool
-steady radius cost = finite radius && le nought radius && finite cost
+steady radius cost = all-hold (finite radius ∷ le nought radius ∷ finite cost ∷ [])
 
 -- what a proposal hands out
 pub record Offer : Type 0 where

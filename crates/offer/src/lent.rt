@@ -3,22 +3,12 @@ use vectors::refusal;
 use vectors::vector;
 ghost use mathlib.Core.Path.{_≡_};
 ghost use mathlib.Core.Bool.{_&&_};
+ghost use mathlib.Core.List.{[], _∷_};
 ghost use Prim.Native.Nat.{_*_};
 ghost use lib.Dec.{eqb};
 ghost use Rattle.vectors.specs.Vector.{all-finite};
-ghost use Rattle.vectors.specs.Refusal as Table;
-ghost use Rattle.vectors.specs.Refusal.{room};
+ghost use Rattle.vectors.specs.Refusal.{all-hold, size, room};
 ghost use Rattle.offer.specs.Calls.{replaced};
-
-// Two vectors and a matrix.
-pub fn derivatives(n: usize, a: usize, b: usize, h: usize) -> bool
-    ensures { λ r. ⌜ r ≡ (Table.size n && eqb a n && eqb b n && eqb h (n * n)) ⌝ }
-{
-    if !refusal::vectors(n, a, b) {
-        return false;
-    }
-    h == n * n
-}
 
 // What a proposal is lent.
 pub fn all_sized(
@@ -30,18 +20,21 @@ pub fn all_sized(
     trial: usize,
     scratch: usize,
 ) -> bool
-    ensures { λ r. ⌜ r ≡ (Table.size n && eqb point n && eqb gradient n && eqb hessian (n * n) && eqb step n && eqb trial n && eqb scratch (room n)) ⌝ }
+    ensures { λ r. ⌜ r ≡ all-hold (size n ∷ eqb point n ∷ eqb gradient n ∷ eqb hessian (n * n) ∷ eqb step n ∷ eqb trial n ∷ eqb scratch (room n) ∷ []) ⌝ }
 {
-    if !derivatives(n, point, gradient, hessian) {
+    if !refusal::size(n) {
         return false;
     }
-    if step != n {
-        return false;
-    }
-    if trial != n {
-        return false;
-    }
-    scratch == 2 * (n * n) + 8 * n
+    refusal::all_hold(
+        &[
+            point == n,
+            gradient == n,
+            hessian == n * n,
+            step == n,
+            trial == n,
+            scratch == 2 * (n * n) + 8 * n,
+        ],
+    )
 }
 
 // The entries that a proposal reads.

@@ -1,46 +1,18 @@
 // What both sessions check: the ranges of their settings and of what they keep, and refusals 1 to 5.
 use crate::lent;
+use vectors::refusal;
 use vectors::refusal::Refusal;
 use vectors::refusal::Verdict;
 ghost use mathlib.Core.Path.{_≡_};
-ghost use mathlib.Core.Bool.{_&&_};
 ghost use Rattle.vectors.specs.Refusal.{judged};
 ghost use Rattle.offer.specs.Offer as Offer;
 ghost use Rattle.offer.specs.Calls as Calls;
-
-// All of six tests. A caller with fewer passes true for the first of them.
-pub fn all(a: bool, b: bool, c: bool, d: bool, e: bool, f: bool) -> bool
-    ensures { λ r. ⌜ r ≡ (a && b && c && d && e && f) ⌝ }
-{
-    if !a {
-        return false;
-    }
-    if !b {
-        return false;
-    }
-    if !c {
-        return false;
-    }
-    if !d {
-        return false;
-    }
-    if !e {
-        return false;
-    }
-    f
-}
 
 // The radius and the cost that a session keeps.
 pub fn steady(radius: f64, cost: f64) -> bool
     ensures { λ r. ⌜ r ≡ Offer.steady radius cost ⌝ }
 {
-    if !float::finite(radius) {
-        return false;
-    }
-    if 0.0 <= radius {
-        return float::finite(cost);
-    }
-    false
+    refusal::all_hold(&[float::finite(radius), 0.0 <= radius, float::finite(cost)])
 }
 
 // Refusals 1 to 5 in the order of document 01's table. A call that lacks a check passes it.

@@ -1,25 +1,24 @@
 -- How each call ends: its contract, from what its code has found out. Assumes nothing.
 use mathlib.Core.Path.{_≡_, refl, sym, ap, _∙_}
-use mathlib.Core.Bool.{Bool, true, false, cond, not, _&&_, _||_}
+use mathlib.Core.Bool.{Bool, true, false, cond, not, _||_}
 use mathlib.Core.List.{List, [], _∷_}
 use Prim.Native.Nat.{ℕ, zero, suc, _≤_}
 use native.Mathlib.Omega.{arith}
 use lib.ListN.{length}
-use lib.Ieee.{Float, neg, lt, le, eq, isNan}
+use lib.Ieee.{Float, neg, lt, eq, isNan}
 use lib.Ieee.Bits.{is-true}
 use borrow.Author.Tests.{eqb-true}
 use Rattle.float.specs.Numbers.{_⊖_, _⊗_, finite, magnitude}
-use Rattle.float.specs.Constants.{nought, one, half, hundredth}
+use Rattle.float.specs.Constants.{nought, half}
 use Rattle.float.proofs.Commute.{mul-commutes}
 use Rattle.vectors.specs.Vector.{zeros, dot-to, dot, all-finite}
-use Rattle.vectors.specs.Refusal.{Answer, refused, given, Check, _if_, then, judged, sized, Square}
-use Rattle.kernels.specs.Kernel.{positive}
+use Rattle.vectors.specs.Refusal.{Answer, refused, given, Check, _if_, then, judged, all-hold, sized, Square}
 use Rattle.kernels.specs.Choice as Choice
 use Rattle.vectors.specs.declared.refusal.Refusal.{Refusal}
 use Rattle.vectors.specs.declared.refusal.Refusal.the-variants.{Size, Setting, Turn, Entry, Radius, Range}
 use Rattle.vectors.specs.declared.refusal.Verdict.{Verdict}
 use Rattle.vectors.specs.declared.refusal.Verdict.the-variants.{Passed, Failed}
-use Rattle.vectors.proofs.Sizes.{both}
+use Rattle.vectors.proofs.Sizes.{Each, each-holds}
 use Rattle.kernels.proofs.Choices.{in-range-known}
 use Rattle.kernels.proofs.Kernels.{unless-passed, unless-failed, early, first-passed}
 use Rattle.offer.specs.Offer.{all-sized, steady, Offer}
@@ -29,7 +28,7 @@ use Rattle.offer.specs.declared.Offered.the-variants as offered
 use Rattle.offer.proofs.Checks.{passed-none, not-not}
 use Rattle.offer.proofs.Lengths.{Lent, lent-true, copied}
 use Rattle.offer.proofs.Offers.{offers-kernel, found-none, found-step}
-use Rattle.sr1.specs.Settings.{between, in-range, chosen}
+use Rattle.sr1.specs.Settings.{ranges, in-range, chosen}
 use Rattle.sr1.specs.Session.{sound, in-phase, Promise, promised, start-checks, begin, start, converged, done, predicted-fall, awaiting, proposal-checks, stepping, proposal, fall-ratio, next-radius, updated, settled, verdict, judge, judgement-checks, judgement}
 use Rattle.sr1.specs.Calls as Calls
 use Rattle.sr1.specs.Calls.{Proposes, Updates, Judges}
@@ -57,16 +56,12 @@ module _ (t : Settings) (f : Float) (v : Verdict) (judges : v ≡ judged (start-
 
 -- ---- the proposal
 
--- settings in range name a kernel
-kernel-known : (t : Settings) → in-range t ≡ true → Choice.known (t .choice .kernel) ≡ true
-unfolding in-range
-kernel-known t e =
-    let a = Choice.in-range (t .choice) in
-    let b = positive (magnitude (t .radius)) in
-    let c = between (t .eta) hundredth in
-    let d = between (t .factor) one in
-    let f = finite (t .«tol_grad») && le nought (t .«tol_grad») in
-    in-range-known (t .choice) (both a b (both (a && b) c (both (a && b && c) d (both (a && b && c && d) f e .0) .0) .0) .0)
+-- a sound session's settings name a kernel
+kernel-known : (s : Session) → sound s ≡ true → Choice.known (s .settings .choice .kernel) ≡ true
+unfolding sound in-range
+kernel-known s e =
+    let ranged = each-holds (in-range (s .settings) ∷ steady (s .radius) (s .cost) ∷ []) e .0 in
+    in-range-known (s .settings .choice) (each-holds (ranges (s .settings)) ranged .0)
 
 -- the kernels' p·g is document 01's g·s
 dot-to-commutes : (a b : List Float) (k : ℕ) → dot-to a b k ≡ dot-to b a k
@@ -117,10 +112,9 @@ module _ (s : Session) (n : ℕ) (point gradient hessian step trial scratch : Li
 
     -- the session's proposal follows what was offered
     follows : stepping chosen s n point gradient hessian ≡ then (λ (o : Offer). given (awaiting s n gradient hessian o)) answer
-    unfolding sound
     follows =
         let right : sound s ≡ true = is-true _ (not-not (sound s) (passed-none checks passed .1 .0)) in
-        let kernel = kernel-known (s .settings) (both (in-range (s .settings)) (steady (s .radius) (s .cost)) right .0) in
+        let kernel = kernel-known s right in
         rw (far, offers-kernel (s .settings .choice) n (s .radius) point gradient hessian step trial scratch sizes kernel)
 
     pub steps-none : (r : Refusal) → found ≡ offered.Refused r → Proposes (stepping chosen s n point gradient hessian) s step trial scratch (refusing s r) step′ trial′ scratch′
@@ -150,28 +144,30 @@ module _ (s : Session) (n : ℕ) (F : Float) (new-gradient point step trial grad
   abbrev answer-checked : List Check
   answer-checked = judgement-checks s n new-gradient point step trial gradient hessian scratch
 
+  abbrev entries : List Bool
+  entries = all-finite step ∷ all-finite trial ∷ all-finite gradient ∷ all-finite hessian ∷ all-finite new-gradient ∷ (finite F || isNan F) ∷ []
+
   abbrev answered : Bool
-  answered = all-finite step && all-finite trial && all-finite gradient && all-finite hessian && all-finite new-gradient && (finite F || isNan F)
+  answered = all-hold entries
 
   module _ (passed : judged answer-checked ≡ Passed) where
-    sizes-right : (all-sized n point gradient hessian step trial scratch ≡ true) × (sized n new-gradient ≡ true)
-    sizes-right =
-        both (all-sized n point gradient hessian step trial scratch) (sized n new-gradient)
-        (first-passed (all-sized n point gradient hessian step trial scratch && sized n new-gradient) Size ((Setting if not (sound s)) ∷ []) passed)
+    abbrev sizes-asked : List Bool
+    sizes-asked = all-sized n point gradient hessian step trial scratch ∷ sized n new-gradient ∷ []
+
+    sizes-right : Each sizes-asked
+    sizes-right = each-holds sizes-asked (first-passed (all-hold sizes-asked) Size ((Setting if not (sound s)) ∷ []) passed)
 
     answer-lent : Lent n (length point) (length gradient) (length hessian) (length step) (length trial) (length scratch)
     answer-lent = lent-true n (length point) (length gradient) (length hessian) (length step) (length trial) (length scratch) (sizes-right .0)
 
     answer-new : length new-gradient ≡ n
-    answer-new = eqb-true (length new-gradient) n (sizes-right .1)
+    answer-new = eqb-true (length new-gradient) n (sizes-right .1 .0)
 
     -- what `renew` asks
     pub renew-ready : answered ≡ true
         → (n ≤ length scratch) × Square n (length hessian) × (length new-gradient ≡ n) × (length gradient ≡ n) × (length step ≡ n) × (all-finite hessian ≡ true)
     renew-ready a =
-        let three = all-finite step && all-finite trial && all-finite gradient in
-        let finite-hessian = both three (all-finite hessian) (both (three && all-finite hessian) (all-finite new-gradient) (both (three && all-finite hessian && all-finite new-gradient) (finite F || isNan F) a .0) .0) .1 in
-        (omega (arith, answer-lent .scratch), answer-lent .square, answer-new, answer-lent .gradient, answer-lent .step, finite-hessian)
+        (omega (arith, answer-lent .scratch), answer-lent .square, answer-new, answer-lent .gradient, answer-lent .step, each-holds entries a .1 .1 .1 .0)
 
     takes-trial : replaced trial point ≡ trial
     takes-trial = copied trial point (answer-lent .point ∙ sym (answer-lent .trial))

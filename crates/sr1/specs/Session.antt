@@ -7,7 +7,7 @@ use lib.Ieee.{Float, lt, le, eq, neg, isNan}
 use Rattle.float.specs.Numbers.{_⊕_, _⊖_, _⊗_, _⊘_, finite, magnitude}
 use Rattle.float.specs.Constants.{nought, one, two, half, three-quarters, tenth, four-fifths}
 use Rattle.vectors.specs.Vector.{at, tab, flat, dot, norm, row, times, weighted, minus, all-finite}
-use Rattle.vectors.specs.Refusal.{Answer, refused, given, Check, _if_, unless, then, size, sized}
+use Rattle.vectors.specs.Refusal.{Answer, refused, given, Check, _if_, unless, then, all-hold, size, sized}
 use Rattle.kernels.specs.Kernel.{Kernel}
 use Rattle.vectors.specs.declared.refusal.Refusal.the-variants.{Size, Setting, Turn, Entry, Radius, Range}
 use Rattle.sr1.specs.Settings.{in-range}
@@ -22,7 +22,7 @@ use Rattle.sr1.specs.declared.session.Outcome.the-variants.{Done, Propos
 -- not "a setting out of range or not finite, or a session with negative or not finite radius, or cost not finite"; "a session checks all settings of its kind, whatever its kernel"
 unfoldable pub sound : Session → Bool
 unfolding in-range finite
-sound s = in-range (s .settings) && steady (s .radius) (s .cost)
+sound s = all-hold (in-range (s .settings) ∷ steady (s .radius) (s .cost) ∷ [])
 
 -- ---- phases: "ready; awaiting a cost, with the model value and step norm it was promised on", here "P .. kept in place of m"
 
@@ -183,7 +183,7 @@ settled s F ratio radius new-gradient point trial gradient hessian =
 -- "for SR1's answer step, trial, g, H, G"; "trial cost infinite (NaN is taken)"
 abbrev pub answer-checks : (F : Float) → (new-gradient step trial gradient hessian : List Float) → List Check
 answer-checks F new-gradient step trial gradient hessian =
-    (Entry if not (all-finite step && all-finite trial && all-finite gradient && all-finite hessian && all-finite new-gradient && (finite F || isNan F)))
+    (Entry if not (all-hold (all-finite step ∷ all-finite trial ∷ all-finite gradient ∷ all-finite hessian ∷ all-finite new-gradient ∷ (finite F || isNan F) ∷ [])))
     ∷ []
 
 -- "the next radius or the updated Hessian has a number that is not finite"
@@ -204,7 +204,7 @@ judge s n F new-gradient point step trial gradient hessian p =
 
 abbrev pub judgement-checks : Session → ℕ → (new-gradient point step trial gradient hessian scratch : List Float) → List Check
 judgement-checks s n new-gradient point step trial gradient hessian scratch =
-    (Size if not (all-sized n point gradient hessian step trial scratch && sized n new-gradient))
+    (Size if not (all-hold (all-sized n point gradient hessian step trial scratch ∷ sized n new-gradient ∷ [])))
     ∷ (Setting if not (sound s))
     ∷ []
 

@@ -1,9 +1,11 @@
 -- The settings of `SR1TrustRegion`: their defaults, their range and the kernel that they choose. Definitions only.
-use mathlib.Core.Bool.{Bool, _&&_}
+use mathlib.Core.Bool.{Bool}
+use mathlib.Core.List.{List, [], _∷_}
 use Prim.Native.Nat.{ℕ}
-use lib.Ieee.{Float, lt, le}
+use lib.Ieee.{lt, le}
 use Rattle.float.specs.Numbers.{finite, magnitude}
 use Rattle.float.specs.Constants.{nought, one, hundredth, thousandth, half-thousandth, hundred-millionth}
+use Rattle.vectors.specs.Refusal.{all-hold}
 use Rattle.kernels.specs.Kernel.{Kernel, positive}
 use Rattle.kernels.specs.Choice as Choice
 use Rattle.sr1.specs.declared.settings.Settings.{Settings}
@@ -18,19 +20,22 @@ by-default kernel limit = record {
   «tol_grad» = thousandth;
 }
 
--- in (0, top)
-abbrev pub between : (x top : Float) → Bool
-between x top = positive x && lt x top
-
 -- "Settings must be finite. Kernel 1 to 3 (Cauchy, Dogleg, Steihaug); radius .. > 0; .. eta of SR1 in (0, 0.01); denominator factor in (0, 1); tol_grad ≥ 0; epsilon > 0; Steihaug's iteration limit 0 to 10,000. SR1's radius is taken by magnitude first."
+abbrev pub ranges : Settings → List Bool
+ranges t =
+    Choice.in-range (t .choice)
+    ∷ positive (magnitude (t .radius))
+    ∷ positive (t .eta)
+    ∷ lt (t .eta) hundredth
+    ∷ positive (t .factor)
+    ∷ lt (t .factor) one
+    ∷ finite (t .«tol_grad»)
+    ∷ le nought (t .«tol_grad»)
+    ∷ []
+
 unfoldable pub in-range : Settings → Bool
 unfolding Choice.in-range positive finite magnitude
-in-range t =
-    Choice.in-range (t .choice)
-    && positive (magnitude (t .radius))
-    && between (t .eta) hundredth
-    && between (t .factor) one
-    && (finite (t .«tol_grad») && le nought (t .«tol_grad»))
+in-range t = all-hold (ranges t)
 
 -- the kernel of the settings
 abbrev pub chosen : Settings → Kernel

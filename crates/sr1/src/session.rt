@@ -2,6 +2,7 @@
 use crate::settings;
 use crate::settings::Settings;
 use offer::range;
+use vectors::refusal;
 use vectors::refusal::Refusal;
 ghost use mathlib.Core.Path.{_≡_};
 ghost use Rattle.sr1.specs.Session as Definition;
@@ -44,9 +45,12 @@ pub fn sound(s: Session) -> bool
     ensures { λ r. ⌜ r ≡ Definition.sound s ⌝ }
 {
     let settings = s.settings;
-    let ranged = settings::in_range(settings);
-    let steady = range::steady(s.radius, s.cost);
-    range::all(true, true, true, true, ranged, steady)
+    refusal::all_hold(
+        &[
+            settings::in_range(settings),
+            range::steady(s.radius, s.cost),
+        ],
+    )
 }
 
 pub fn is_ready(phase: Phase) -> bool

@@ -2,13 +2,8 @@
 use kernels::choice;
 use kernels::choice::Choice;
 use kernels::kernel;
-use offer::range;
+use vectors::refusal;
 ghost use mathlib.Core.Path.{_≡_};
-ghost use mathlib.Core.Bool.{_&&_};
-ghost use lib.Ieee.{le};
-ghost use Rattle.float.specs.Numbers.{finite};
-ghost use Rattle.float.specs.Constants.{nought};
-ghost use Rattle.sr1.specs.Settings as Definition;
 ghost use Rattle.sr1.specs.Settings.{by-default, in-range};
 
 pub struct Settings {
@@ -43,36 +38,21 @@ impl Settings {
     }
 }
 
-// x is in (0, top).
-fn between(x: f64, top: f64) -> bool
-    ensures { λ r. ⌜ r ≡ Definition.between x top ⌝ }
-{
-    range::all(true, true, true, true, kernel::positive(x), x < top)
-}
-
-// tol_grad is not below 0.
-fn tolerance(x: f64) -> bool
-    ensures { λ r. ⌜ r ≡ (finite x && le nought x) ⌝ }
-{
-    range::all(true, true, true, true, float::finite(x), 0.0 <= x)
-}
-
 // Every setting is checked, whatever the kernel. The radius is taken by magnitude.
 pub fn in_range(t: Settings) -> bool
     ensures { λ r. ⌜ r ≡ in-range t ⌝ }
 {
     let choice = t.choice;
-    if !choice::in_range(choice) {
-        return false;
-    }
-    if !kernel::positive(float::magnitude(t.radius)) {
-        return false;
-    }
-    if !between(t.eta, 0.01) {
-        return false;
-    }
-    if !between(t.factor, 1.0) {
-        return false;
-    }
-    tolerance(t.tol_grad)
+    refusal::all_hold(
+        &[
+            choice::in_range(choice),
+            kernel::positive(float::magnitude(t.radius)),
+            kernel::positive(t.eta),
+            t.eta < 0.01,
+            kernel::positive(t.factor),
+            t.factor < 1.0,
+            float::finite(t.tol_grad),
+            0.0 <= t.tol_grad,
+        ],
+    )
 }

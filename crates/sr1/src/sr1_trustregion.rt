@@ -11,11 +11,13 @@ use crate::settings::Settings;
 use offer::Offered;
 use offer::lent;
 use offer::range;
+use vectors::refusal;
 use vectors::refusal::Refusal;
 use vectors::refusal::Verdict;
 use vectors::vector;
 ghost use mathlib.Core.Path.{_≡_};
-ghost use mathlib.Core.Bool.{true, _&&_, _||_};
+ghost use mathlib.Core.Bool.{true, _||_};
+ghost use mathlib.Core.List.{[], _∷_};
 ghost use Prim.Native.Nat.{_+_, _*_, _≤_, _<_};
 ghost use lib.ListN.{length};
 ghost use lib.Ieee.{neg, isNan};
@@ -23,7 +25,7 @@ ghost use Rattle.float.specs.Numbers.{_⊕_, _⊖_, _⊗_, finite};
 ghost use Rattle.float.specs.Constants.{half};
 ghost use Rattle.vectors.specs.Vector.{zeros, all-finite};
 ghost use Rattle.vectors.specs.Slots.{Puts};
-ghost use Rattle.vectors.specs.Refusal.{judged, Square};
+ghost use Rattle.vectors.specs.Refusal.{judged, all-hold, Square};
 ghost use Rattle.vectors.specs.declared.refusal.Verdict.the-variants.{Passed};
 ghost use Rattle.sr1.specs.Settings.{chosen};
 ghost use Rattle.sr1.specs.Session as Definition;
@@ -200,7 +202,7 @@ fn judgement_checked(
         trial.len(),
         scratch.len(),
     );
-    let sized = range::all(true, true, true, true, lengths, new_gradient.len() == n);
+    let sized = refusal::all_hold(&[lengths, new_gradient.len() == n]);
     let sound = session::sound(s);
     range::verdict(sized, sound, true, true, false)
 }
@@ -224,15 +226,17 @@ fn answered(
     gradient: &[f64],
     hessian: &[f64],
 ) -> bool
-    ensures { λ r. ⌜ r ≡ (all-finite (now (step .entry)) && all-finite (now (trial .entry)) && all-finite (now (gradient .entry)) && all-finite (now (hessian .entry)) && all-finite (now («new_gradient» .entry)) && (finite cost || isNan cost)) ⌝ }
+    ensures { λ r. ⌜ r ≡ all-hold (all-finite (now (step .entry)) ∷ all-finite (now (trial .entry)) ∷ all-finite (now (gradient .entry)) ∷ all-finite (now (hessian .entry)) ∷ all-finite (now («new_gradient» .entry)) ∷ (finite cost || isNan cost) ∷ []) ⌝ }
 {
-    range::all(
-        vector::all_finite(step),
-        vector::all_finite(trial),
-        vector::all_finite(gradient),
-        vector::all_finite(hessian),
-        vector::all_finite(new_gradient),
-        cost_taken(cost),
+    refusal::all_hold(
+        &[
+            vector::all_finite(step),
+            vector::all_finite(trial),
+            vector::all_finite(gradient),
+            vector::all_finite(hessian),
+            vector::all_finite(new_gradient),
+            cost_taken(cost),
+        ],
     )
 }
 

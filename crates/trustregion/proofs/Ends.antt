@@ -1,23 +1,22 @@
 -- How each call ends: its contract, from what its code has found out. Assumes nothing.
 use mathlib.Core.Path.{_≡_, refl, sym, ap, _∙_}
-use mathlib.Core.Bool.{true, false, not, _&&_}
+use mathlib.Core.Bool.{true, false, not}
 use mathlib.Core.List.{List, [], _∷_}
 use Prim.Native.Nat.{ℕ, _*_}
 use lib.Dec.{eqb}
 use lib.ListN.{length}
-use lib.Ieee.{Float, lt, le}
+use lib.Ieee.{Float, lt}
 use lib.Ieee.Bits.{is-true}
 use borrow.Author.Tests.{eqb-true}
-use Rattle.float.specs.Numbers.{_⊕_, _⊗_, finite}
-use Rattle.float.specs.Constants.{nought, half, quarter}
-use Rattle.vectors.specs.Refusal.{Answer, refused, given, Check, _if_, then, judged, size, sized}
-use Rattle.kernels.specs.Kernel.{positive}
+use Rattle.float.specs.Numbers.{_⊕_, _⊗_}
+use Rattle.float.specs.Constants.{half}
+use Rattle.vectors.specs.Refusal.{Answer, refused, given, Check, _if_, then, judged, all-hold, size, sized}
 use Rattle.kernels.specs.Choice as Choice
 use Rattle.vectors.specs.declared.refusal.Refusal.{Refusal}
 use Rattle.vectors.specs.declared.refusal.Refusal.the-variants.{Size, Setting, Turn}
 use Rattle.vectors.specs.declared.refusal.Verdict.{Verdict}
 use Rattle.vectors.specs.declared.refusal.Verdict.the-variants.{Passed, Failed}
-use Rattle.vectors.proofs.Sizes.{both, vectors-true}
+use Rattle.vectors.proofs.Sizes.{each-holds, vectors-true}
 use Rattle.kernels.proofs.Choices.{in-range-known}
 use Rattle.kernels.proofs.Kernels.{unless-passed, unless-failed, early, first-passed}
 use Rattle.offer.specs.Offer.{all-sized, steady, Offer, offer}
@@ -26,10 +25,9 @@ use Rattle.offer.specs.declared.Offered.{Offered}
 use Rattle.offer.specs.declared.Offered.the-variants as offered
 use Rattle.offer.proofs.Lengths.{copied}
 use Rattle.offer.proofs.Offers.{offers-kernel, found-none, found-step}
-use Rattle.trustregion.specs.Settings.{in-range, chosen}
+use Rattle.trustregion.specs.Settings.{ranges, in-range, chosen}
 use Rattle.trustregion.specs.Session.{sound, in-phase, Promise, promised, model-value, Proposal, awaiting, proposal-checks, proposal, rho, radius-by, settled, verdict-checks, judge, judgement-checks, judgement, renewal-checks, renewed-by, renewal}
 use Rattle.trustregion.specs.Calls.{Proposes, Judges, Renews}
-use Rattle.trustregion.specs.declared.settings.Settings.{Settings}
 use Rattle.trustregion.specs.declared.session.Session.{Session}
 use Rattle.trustregion.specs.declared.session.Phase.the-variants.{Ready, AwaitingCost, AwaitingDerivatives}
 use Rattle.trustregion.specs.declared.session.Outcome.the-variants.{Refused, Proposed, Accepted, Rejected, Taken}
@@ -42,15 +40,12 @@ refusing s r = record { session = s; outcome = Refused r }
 
 -- ---- the proposal
 
--- settings in range name a kernel
-kernel-known : (t : Settings) → in-range t ≡ true → Choice.known (t .choice .kernel) ≡ true
-unfolding in-range
-kernel-known t e =
-    let a = Choice.in-range (t .choice) in
-    let b = positive (t .radius) in
-    let c = positive (t .«max_radius») in
-    let d = finite (t .eta) && le nought (t .eta) && lt (t .eta) quarter in
-    in-range-known (t .choice) (both a b (both (a && b) c (both (a && b && c) d e .0) .0) .0)
+-- a sound session's settings name a kernel
+kernel-known : (s : Session) → sound s ≡ true → Choice.known (s .settings .choice .kernel) ≡ true
+unfolding sound in-range
+kernel-known s e =
+    let ranged = each-holds (in-range (s .settings) ∷ steady (s .radius) (s .cost) ∷ []) e .0 in
+    in-range-known (s .settings .choice) (each-holds (ranges (s .settings)) ranged .0)
 
 -- v is the code's verdict on the checks
 module _ (s : Session) (n : ℕ) (point gradient hessian step trial scratch : List Float) (v : Verdict) (judges : v ≡ judged (proposal-checks s n point gradient hessian step trial scratch)) where
@@ -74,12 +69,12 @@ module _ (s : Session) (n : ℕ) (point gradient hessian step trial scratch : Li
 
     -- the session's proposal follows what was offered
     follows : proposed ≡ then (λ (o : Offer). given (awaiting s n gradient hessian o)) answer
-    unfolding proposal sound
+    unfolding proposal
     follows =
         let none = passed-none checks (sym judges ∙ e) in
         let sizes : all-sized n point gradient hessian step trial scratch ≡ true = is-true _ (not-not (all-sized n point gradient hessian step trial scratch) (none .0)) in
         let right : sound s ≡ true = is-true _ (not-not (sound s) (none .1 .0)) in
-        let kernel = kernel-known (s .settings) (both (in-range (s .settings)) (steady (s .radius) (s .cost)) right .0) in
+        let kernel = kernel-known s right in
         unless-passed checks (then (λ (o : Offer). given (awaiting s n gradient hessian o)) (then (offer n point) (chosen (s .settings) n (s .radius) gradient hessian))) (sym judges ∙ e)
         ∙ ap (then (λ (o : Offer). given (awaiting s n gradient hessian o)))
         (sym (offers-kernel (s .settings .choice) n (s .radius) point gradient hessian step trial scratch sizes kernel))
@@ -137,7 +132,7 @@ module _ (s : Session) (n : ℕ) (F : Float) (point trial : List Float) (v : Ver
   module _ (e : v ≡ Passed) where
     pub judged-lengths : length point ≡ length trial
     judged-lengths =
-        let l = vectors-true n (length point) (length trial) (first-passed (size n && sized n point && sized n trial) Size ((Setting if not (sound s)) ∷ []) (sym judges ∙ e)) in
+        let l = vectors-true n (length point) (length trial) (first-passed (all-hold (size n ∷ sized n point ∷ sized n trial ∷ [])) Size ((Setting if not (sound s)) ∷ []) (sym judges ∙ e)) in
         l .0 ∙ sym (l .1)
 
     on-promise : judgement s n F point trial ≡ then (judge s F point trial) (promised (s .phase))
@@ -153,13 +148,11 @@ module _ (s : Session) (n : ℕ) (F : Float) (point trial : List Float) (v : Ver
 
 -- ---- the answer with new derivatives
 
-renewal-lengths : (n G H g h : ℕ) → (size n && eqb G n && eqb H (n * n) && eqb g n && eqb h (n * n)) ≡ true → (g ≡ G) × (h ≡ H)
+renewal-lengths : (n G H g h : ℕ) → all-hold (size n ∷ eqb G n ∷ eqb H (n * n) ∷ eqb g n ∷ eqb h (n * n) ∷ []) ≡ true → (g ≡ G) × (h ≡ H)
 renewal-lengths n G H g h e =
-    let four = both (size n && eqb G n && eqb H (n * n) && eqb g n) (eqb h (n * n)) e in
-    let three = both (size n && eqb G n && eqb H (n * n)) (eqb g n) (four .0) in
-    let two = both (size n && eqb G n) (eqb H (n * n)) (three .0) in
-    let one = both (size n) (eqb G n) (two .0) in
-    (eqb-true g n (three .1) ∙ sym (eqb-true G n (one .1)), eqb-true h (n * n) (four .1) ∙ sym (eqb-true H (n * n) (two .1)))
+    let new = each-holds (size n ∷ eqb G n ∷ eqb H (n * n) ∷ eqb g n ∷ eqb h (n * n) ∷ []) e .1 in
+    let old = new .1 .1 in
+    (eqb-true g n (old .0) ∙ sym (eqb-true G n (new .0)), eqb-true h (n * n) (old .1 .0) ∙ sym (eqb-true H (n * n) (new .1 .0)))
 
 module _ (s : Session) (n : ℕ) (new-gradient new-hessian gradient hessian : List Float) (v : Verdict) (judges : v ≡ judged (renewal-checks s n new-gradient new-hessian gradient hessian)) where
   pub renews-not : (r : Refusal) → v ≡ Failed r → Renews (renewal s n new-gradient new-hessian gradient hessian) s gradient hessian (refusing s r) gradient hessian
@@ -172,7 +165,7 @@ module _ (s : Session) (n : ℕ) (new-gradient new-hessian gradient hessian : Li
       → Renews (renewal s n new-gradient new-hessian gradient hessian) s gradient hessian (record { session = in-phase Ready s; outcome = Taken }) gradient′ hessian′
   unfolding renewal
   renews e gradient′ hessian′ g h =
-      let sizes = is-true _ (not-not (size n && sized n new-gradient && sized (n * n) new-hessian && sized n gradient && sized (n * n) hessian) (passed-none (renewal-checks s n new-gradient new-hessian gradient hessian) (sym judges ∙ e) .0)) in
+      let sizes = is-true _ (not-not (all-hold (size n ∷ sized n new-gradient ∷ sized (n * n) new-hessian ∷ sized n gradient ∷ sized (n * n) hessian ∷ [])) (passed-none (renewal-checks s n new-gradient new-hessian gradient hessian) (sym judges ∙ e) .0)) in
       let l = renewal-lengths n (length new-gradient) (length new-hessian) (length gradient) (length hessian) sizes in
       rw (unless-passed (renewal-checks s n new-gradient new-hessian gradient hessian) (given (renewed-by s new-gradient new-hessian)) (sym judges ∙ e))
       (record { says = refl; leaves-gradient = g ∙ copied new-gradient gradient (l .0); leaves-hessian = h ∙ copied new-hessian hessian (l .1) })

@@ -4,16 +4,16 @@ use mathlib.Core.Bool.{Bool, true, false, not, _&&_}
 use mathlib.Core.List.{List, [], _∷_}
 use lib.Dec.{T}
 use lib.Ieee.{Float, binary64, fits, lt, le}
-use lib.Ieee.Fits.{and-l, and-r}
+use lib.Ieee.Bits.{is-true}
 use Rattle.float.specs.Numbers.{_⊖_, _⊗_, finite, magnitude}
 use Rattle.float.specs.Constants.{nought, two, quarter, three-quarters, ten-epsilons}
 use Rattle.float.proofs.Order.{lt-real, le-lt-trans}
 use Rattle.float.proofs.Signs.{sub-above, div-above, smaller-le}
 use Rattle.float.proofs.Quarter.{quarter-within}
 use Rattle.vectors.specs.Refusal.{given}
+use Rattle.vectors.proofs.Sizes.{both, each-holds}
 use Rattle.kernels.specs.Kernel.{Kernel, positive}
-use Rattle.kernels.specs.Choice as Choice
-use Rattle.trustregion.specs.Settings.{in-range}
+use Rattle.trustregion.specs.Settings.{ranges, in-range}
 use Rattle.offer.specs.Offer.{steady}
 use Rattle.trustregion.specs.Session.{sound, Promise, awaiting, rho, next-radius, settled}
 use Rattle.trustregion.specs.Run.{Station, Lending, own, others, Call, Trial, Reply, refusal, proposed, judged, renewed, Done, on-proposal, on-judgement, on-renewal, lending-it, perform-by, perform, run, add-trial, trials, Every}
@@ -22,6 +22,10 @@ use Rattle.trustregion.specs.declared.settings.Settings.{Settings}
 use Rattle.trustregion.specs.declared.session.Session.{Session}
 use Rattle.offer.proofs.Checks.{cond-elim}
 use Rattle.trustregion.proofs.Answers.{Came, refuses, offers, judges, renews, comes}
+
+true-is : (b : Bool) → b ≡ true → T b
+true-is true e = tt
+true-is false e = subst (λ (x : Bool). T (not x)) e tt
 
 -- ---- what `sound` says of eta and max_radius
 
@@ -33,13 +37,10 @@ bounds : (s : Session) → T (sound s) → Bounds (s .settings)
 unfolding sound in-range positive
 bounds s w =
     let t = s .settings in
-    let a = Choice.in-range (t .choice) && positive (t .radius) in
-    let b = positive (t .«max_radius») in
-    let c = finite (t .eta) && le nought (t .eta) && lt (t .eta) quarter in
-    let abc : T (a && b && c) = and-l (in-range t) (steady (s .radius) (s .cost)) w in
+    let e = each-holds (ranges t) (each-holds (in-range t ∷ steady (s .radius) (s .cost) ∷ []) (is-true _ w) .0) in
     record {
-      eta = and-r (finite (t .eta)) (le nought (t .eta)) (and-l (finite (t .eta) && le nought (t .eta)) (lt (t .eta) quarter) (and-r (a && b) c abc));
-      max-radius = and-r (finite (t .«max_radius»)) (lt nought (t .«max_radius»)) (and-r a b (and-l (a && b) c abc));
+      eta = true-is _ (e .1 .1 .1 .1 .0);
+      max-radius = true-is _ (both (finite (t .«max_radius»)) (lt nought (t .«max_radius»)) (e .1 .1 .0) .1);
     }
 
 -- ---- one trial
@@ -71,10 +72,6 @@ Tells t renewed = Unit {0}
 record Good (t : Settings) (d : Done) : Type 0 where
   keeps : d .after .session .settings ≡ t
   tells : Tells t (d .reply)
-
-true-is : (b : Bool) → b ≡ true → T b
-true-is true e = tt
-true-is false e = subst (λ (x : Bool). T (not x)) e tt
 
 same-promise : {p q : Promise} → given p ≡ given q → p ≡ q
 same-promise e = cc

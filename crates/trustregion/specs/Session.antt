@@ -7,7 +7,7 @@ use lib.Ieee.{Float, lt, le, eq, isNan}
 use Rattle.float.specs.Numbers.{_⊕_, _⊖_, _⊗_, finite, magnitude, smaller}
 use Rattle.float.specs.Constants.{nought, two, half, quarter, three-quarters, ten-epsilons}
 use Rattle.vectors.specs.Vector.{dot, norm, weighted, all-finite}
-use Rattle.vectors.specs.Refusal.{Answer, refused, given, Check, _if_, unless, then, size, sized}
+use Rattle.vectors.specs.Refusal.{Answer, refused, given, Check, _if_, unless, then, all-hold, size, sized}
 use Rattle.kernels.specs.Kernel.{Kernel}
 use Rattle.kernels.specs.Ratio.{reduction-ratio}
 use Rattle.vectors.specs.declared.refusal.Refusal.the-variants.{Size, Setting, Turn, Entry, Radius, Range}
@@ -21,7 +21,7 @@ use Rattle.trustregion.specs.declared.session.Phase.the-variants.{Ready,
 -- not "a setting out of range or not finite, or a session with negative or not finite radius, or cost not finite"; "a session checks all settings of its kind, whatever its kernel"
 unfoldable pub sound : Session → Bool
 unfolding in-range finite
-sound s = in-range (s .settings) && steady (s .radius) (s .cost)
+sound s = all-hold (in-range (s .settings) ∷ steady (s .radius) (s .cost) ∷ [])
 
 -- ---- phases: "ready; awaiting a cost, with the model value and step norm it was promised on; awaiting derivatives"
 
@@ -152,7 +152,7 @@ judge s F point trial p = verdict s F (rho (s .cost) F (p .model)) (radius-by s 
 
 abbrev pub judgement-checks : Session → ℕ → (point trial : List Float) → List Check
 judgement-checks s n point trial =
-    (Size if not (size n && sized n point && sized n trial))
+    (Size if not (all-hold (size n ∷ sized n point ∷ sized n trial ∷ [])))
     ∷ (Setting if not (sound s))
     ∷ []
 
@@ -170,7 +170,7 @@ pub record Renewal : Type 0 where
 
 abbrev pub renewal-checks : Session → ℕ → (new-gradient new-hessian gradient hessian : List Float) → List Check
 renewal-checks s n new-gradient new-hessian gradient hessian =
-    (Size if not (size n && sized n new-gradient && sized (n * n) new-hessian && sized n gradient && sized (n * n) hessian))
+    (Size if not (all-hold (size n ∷ sized n new-gradient ∷ sized (n * n) new-hessian ∷ sized n gradient ∷ sized (n * n) hessian ∷ [])))
     ∷ (Setting if not (sound s))
     ∷ (Turn if not (awaits-derivatives (s .phase)))
     ∷ (Entry if not (all-finite new-gradient && all-finite new-hessian))

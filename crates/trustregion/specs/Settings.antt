@@ -1,9 +1,11 @@
 -- The settings of `TrustRegion`: their defaults, their range and the kernel that they choose. Definitions only.
-use mathlib.Core.Bool.{Bool, _&&_}
+use mathlib.Core.Bool.{Bool}
+use mathlib.Core.List.{List, [], _∷_}
 use Prim.Native.Nat.{ℕ}
 use lib.Ieee.{lt, le}
 use Rattle.float.specs.Numbers.{finite}
 use Rattle.float.specs.Constants.{nought, one, hundred, quarter, eighth}
+use Rattle.vectors.specs.Refusal.{all-hold}
 use Rattle.kernels.specs.Kernel.{Kernel, positive}
 use Rattle.kernels.specs.Choice as Choice
 use Rattle.trustregion.specs.declared.settings.Settings.{Settings}
@@ -13,13 +15,19 @@ abbrev pub by-default : (kernel limit : ℕ) → Settings
 by-default kernel limit = record { choice = Choice.by-default kernel limit; radius = one; «max_radius» = hundred; eta = eighth }
 
 -- "Settings must be finite. Kernel 1 to 3 (Cauchy, Dogleg, Steihaug); radius and max_radius > 0; eta of `TrustRegion` in [0, 0.25); .. epsilon > 0; Steihaug's iteration limit 0 to 10,000."
+abbrev pub ranges : Settings → List Bool
+ranges t =
+    Choice.in-range (t .choice)
+    ∷ positive (t .radius)
+    ∷ positive (t .«max_radius»)
+    ∷ finite (t .eta)
+    ∷ le nought (t .eta)
+    ∷ lt (t .eta) quarter
+    ∷ []
+
 unfoldable pub in-range : Settings → Bool
 unfolding Choice.in-range positive finite
-in-range t =
-    Choice.in-range (t .choice)
-    && positive (t .radius)
-    && positive (t .«max_radius»)
-    && (finite (t .eta) && le nought (t .eta) && lt (t .eta) quarter)
+in-range t = all-hold (ranges t)
 
 -- the kernel of the settings
 abbrev pub chosen : Settings → Kernel

@@ -2,6 +2,7 @@
 use crate::settings;
 use crate::settings::Settings;
 use offer::range;
+use vectors::refusal;
 use vectors::refusal::Refusal;
 ghost use mathlib.Core.Path.{_≡_};
 ghost use Rattle.trustregion.specs.Session as Definition;
@@ -45,10 +46,12 @@ pub fn sound(s: Session) -> bool
     ensures { λ r. ⌜ r ≡ Definition.sound s ⌝ }
 {
     let settings = s.settings;
-    if !settings::in_range(settings) {
-        return false;
-    }
-    range::steady(s.radius, s.cost)
+    refusal::all_hold(
+        &[
+            settings::in_range(settings),
+            range::steady(s.radius, s.cost),
+        ],
+    )
 }
 
 pub fn is_ready(phase: Phase) -> bool

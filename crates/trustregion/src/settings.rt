@@ -2,12 +2,8 @@
 use kernels::choice;
 use kernels::choice::Choice;
 use kernels::kernel;
-use offer::range;
+use vectors::refusal;
 ghost use mathlib.Core.Path.{_≡_};
-ghost use mathlib.Core.Bool.{_&&_};
-ghost use lib.Ieee.{le, lt};
-ghost use Rattle.float.specs.Numbers.{finite};
-ghost use Rattle.float.specs.Constants.{nought, quarter};
 ghost use Rattle.trustregion.specs.Settings.{by-default, in-range};
 
 pub struct Settings {
@@ -38,26 +34,19 @@ impl Settings {
     }
 }
 
-// eta is in [0, 0.25).
-fn eta_in_range(eta: f64) -> bool
-    ensures { λ r. ⌜ r ≡ (finite eta && le nought eta && lt eta quarter) ⌝ }
-{
-    range::all(true, true, true, float::finite(eta), 0.0 <= eta, eta < 0.25)
-}
-
 // Every setting is checked, whatever the kernel.
 pub fn in_range(t: Settings) -> bool
     ensures { λ r. ⌜ r ≡ in-range t ⌝ }
 {
     let choice = t.choice;
-    if !choice::in_range(choice) {
-        return false;
-    }
-    if !kernel::positive(t.radius) {
-        return false;
-    }
-    if !kernel::positive(t.max_radius) {
-        return false;
-    }
-    eta_in_range(t.eta)
+    refusal::all_hold(
+        &[
+            choice::in_range(choice),
+            kernel::positive(t.radius),
+            kernel::positive(t.max_radius),
+            float::finite(t.eta),
+            0.0 <= t.eta,
+            t.eta < 0.25,
+        ],
+    )
 }

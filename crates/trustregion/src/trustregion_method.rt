@@ -17,6 +17,7 @@ use vectors::refusal::Verdict;
 use vectors::vector;
 ghost use mathlib.Core.Path.{_≡_};
 ghost use mathlib.Core.Bool.{_&&_, _||_};
+ghost use mathlib.Core.List.{[], _∷_};
 ghost use Prim.Native.Nat.{_*_};
 ghost use lib.Dec.{eqb};
 ghost use lib.ListN.{length};
@@ -24,7 +25,7 @@ ghost use lib.Ieee.{isNan};
 ghost use Rattle.float.specs.Numbers.{_⊕_, _⊗_, finite};
 ghost use Rattle.float.specs.Constants.{half};
 ghost use Rattle.vectors.specs.Vector.{all-finite};
-ghost use Rattle.vectors.specs.Refusal.{judged, size};
+ghost use Rattle.vectors.specs.Refusal.{judged, all-hold, size};
 ghost use Rattle.trustregion.specs.Settings.{chosen};
 ghost use Rattle.trustregion.specs.Session as Definition;
 ghost use Rattle.trustregion.specs.Session.{proposal, judgement-checks, verdict-checks, judgement, renewal-checks, renewal, next-radius};
@@ -266,22 +267,19 @@ fn renewal_sized(
     gradient: usize,
     hessian: usize,
 ) -> bool
-    ensures { λ r. ⌜ r ≡ (size n && eqb «new_gradient» n && eqb «new_hessian» (n * n) && eqb gradient n && eqb hessian (n * n)) ⌝ }
+    ensures { λ r. ⌜ r ≡ all-hold (size n ∷ eqb «new_gradient» n ∷ eqb «new_hessian» (n * n) ∷ eqb gradient n ∷ eqb hessian (n * n) ∷ []) ⌝ }
 {
     if !refusal::size(n) {
         return false;
     }
-    let square = n * n;
-    if new_gradient != n {
-        return false;
-    }
-    if new_hessian != square {
-        return false;
-    }
-    if gradient != n {
-        return false;
-    }
-    hessian == square
+    refusal::all_hold(
+        &[
+            new_gradient == n,
+            new_hessian == n * n,
+            gradient == n,
+            hessian == n * n,
+        ],
+    )
 }
 
 fn renewal_checked(

@@ -16,7 +16,6 @@ pub table : List Line
 table =
     equation kernels.«reduction_ratio».ended (λ M. kernels.«reduction_ratio».spec) (λ w κs a g r. refl) (λ κs a s s₂. refl)
     ∷ equation kernels.kernel.positive.ended (λ M. kernels.kernel.positive.spec) (λ w κs a g r. refl) (λ κs a s s₂. refl)
-    ∷ equation kernels.kernel.bounded.ended (λ M. kernels.kernel.bounded.spec) (λ w κs a g r. refl) (λ κs a s s₂. refl)
     ∷ unique kernels.inverse.inverse.ended (λ M. kernels.inverse.inverse.spec) (λ w κs a g r. refl) (λ κs a r r₂ s s₂ p q. let e = wrote (p .wrote) (q .wrote) in (e .0, λ i. tt & tt & e .1 i & alike (p .clears) (q .clears) i & tt))
     ∷ unique kernels.cauchypoint.«cauchy_point».ended (λ M. kernels.cauchypoint.«cauchy_point».spec) (λ w κs a g r. refl) (λ κs a r r₂ s s₂ p q. let e = took p q in (e .0, λ i. tt & tt & tt & tt & e .1 i & e .2 i & tt))
     ∷ unique kernels.dogleg.dogleg.ended (λ M. kernels.dogleg.dogleg.spec) (λ w κs a g r. refl) (λ κs a r r₂ s s₂ p q. let e = took p q in (e .0, λ i. tt & tt & tt & tt & e .1 i & e .2 i & tt))

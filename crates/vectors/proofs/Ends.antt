@@ -2,7 +2,7 @@
 use mathlib.Core.Path.{_≡_, refl, _∙_, ap}
 use mathlib.Core.Bool.{Bool, true, false, not}
 use mathlib.Core.List.{List, [], _∷_}
-use Prim.Native.Nat.{ℕ}
+use Prim.Native.Nat.{ℕ, _*_}
 use native.Mathlib.Omega.{arith}
 use lib.ListN.{length}
 use lib.Ieee.{Float}
@@ -14,7 +14,7 @@ use Rattle.vectors.specs.declared.vector.Number.{Number}
 use Rattle.vectors.specs.declared.vector.Number.the-variants as number
 use Rattle.vectors.specs.declared.refusal.Refusal.the-variants.{Size}
 use Rattle.vectors.specs.declared.refusal.Outcome.the-variants.{Written, Refused}
-use Rattle.vectors.proofs.Sizes.{square-test}
+use Rattle.vectors.proofs.Sizes.{size-test}
 
 -- ---- a call that refuses only by 1, where t is the test of its sizes
 
@@ -34,4 +34,4 @@ value-right (number.Refused r) v e = absurd (let z : _≡_ {A = ℕ} 0 1 = cc in
 pub weighted-value : (n : ℕ) (a H b : List Float) → Square n (length H) → length a ≡ n → length b ≡ n
     → (x : Number) → tells x ≡ weighted-answer n a H b → value-of x ≡ weighted n a H b
 weighted-value n a H b s p q x e =
-    value-right x (weighted n a H b) (e ∙ simp (square-test s, eq-eqb (length a) n p, eq-eqb (length b) n q))
+    value-right x (weighted n a H b) (e ∙ simp (size-test s, eq-eqb (length H) (n * n) (s .long), eq-eqb (length a) n p, eq-eqb (length b) n q))

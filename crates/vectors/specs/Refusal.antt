@@ -1,6 +1,6 @@
 -- What all calls share: refusals, sizes, and what a call leaves. Definitions only.
 use mathlib.Core.Path.{_≡_}
-use mathlib.Core.Bool.{Bool, cond, _&&_}
+use mathlib.Core.Bool.{Bool, true, cond, _&&_}
 use mathlib.Core.List.{List, [], _∷_}
 use Prim.Native.Nat.{ℕ, _+_, _*_, _≤_}
 use lib.Dec.{eqb, leb}
@@ -53,6 +53,11 @@ judged (c ∷ cs) = cond (c .applies) (Failed (c .refusal)) (judged cs)
 abbrev pub then : {A B : Type 0} → (A → Answer B) → Answer A → Answer B
 then f (refused r) = refused r
 then f (given a) = f a
+
+-- every condition of a list
+abbrev pub all-hold : List Bool → Bool
+all-hold [] = true
+all-hold (b ∷ bs) = b && all-hold bs
 
 -- ---- sizes
 

@@ -1,6 +1,6 @@
 // Why a call is refused, and the sizes that every call asks for.
 ghost use mathlib.Core.Path.{_≡_};
-ghost use mathlib.Core.Bool.{_&&_};
+ghost use mathlib.Core.List.{[], _∷_};
 ghost use Prim.Native.Nat.{_*_};
 ghost use lib.Dec.{eqb};
 ghost use Rattle.vectors.specs.Refusal as Table;
@@ -45,6 +45,20 @@ pub fn number(r: Refusal) -> u64
     }
 }
 
+// Every test of a list holds.
+pub fn all_hold(tests: &[bool]) -> bool
+    ensures { λ r. ⌜ r ≡ Table.all-hold (now (tests .entry)) ⌝ }
+{
+    let mut i = 0;
+    while i < tests.len() {
+        if !tests[i] {
+            return false;
+        }
+        i += 1;
+    }
+    true
+}
+
 // n is 1 to 64.
 pub fn size(n: usize) -> bool
     ensures { λ r. ⌜ r ≡ Table.size n ⌝ }
@@ -57,20 +71,14 @@ pub fn size(n: usize) -> bool
 
 // n and the lengths of two vectors are right.
 pub fn vectors(n: usize, a: usize, b: usize) -> bool
-    ensures { λ r. ⌜ r ≡ (Table.size n && eqb a n && eqb b n) ⌝ }
+    ensures { λ r. ⌜ r ≡ Table.all-hold (Table.size n ∷ eqb a n ∷ eqb b n ∷ []) ⌝ }
 {
-    if !size(n) {
-        return false;
-    }
-    if a != n {
-        return false;
-    }
-    b == n
+    all_hold(&[size(n), a == n, b == n])
 }
 
 // n and the length of a matrix are right.
 pub fn matrix(n: usize, h: usize) -> bool
-    ensures { λ r. ⌜ r ≡ (Table.size n && eqb h (n * n)) ⌝ }
+    ensures { λ r. ⌜ r ≡ Table.all-hold (Table.size n ∷ eqb h (n * n) ∷ []) ⌝ }
 {
     if !size(n) {
         return false;
@@ -80,10 +88,10 @@ pub fn matrix(n: usize, h: usize) -> bool
 
 // n and the lengths of a matrix and two vectors are right.
 pub fn shaped(n: usize, h: usize, a: usize, b: usize) -> bool
-    ensures { λ r. ⌜ r ≡ (Table.size n && eqb h (n * n) && eqb a n && eqb b n) ⌝ }
+    ensures { λ r. ⌜ r ≡ Table.all-hold (Table.size n ∷ eqb h (n * n) ∷ eqb a n ∷ eqb b n ∷ []) ⌝ }
 {
-    if !matrix(n, h) {
+    if !size(n) {
         return false;
     }
-    vectors(n, a, b)
+    all_hold(&[h == n * n, a == n, b == n])
 }

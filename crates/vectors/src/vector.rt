@@ -98,10 +98,7 @@ pub fn dot(n: usize, a: &[f64], b: &[f64]) -> Number
 pub fn norm(n: usize, a: &[f64]) -> Number
     ensures { λ r. ⌜ tells r ≡ norm-answer n (now (a .entry)) ⌝ }
 {
-    if !refusal::size(n) {
-        return Number::Refused(Refusal::Size);
-    }
-    if a.len() != n {
+    if !refusal::all_hold(&[refusal::size(n), a.len() == n]) {
         return Number::Refused(Refusal::Size);
     }
     Number::Is(norm_any(a))

@@ -1,12 +1,13 @@
 -- `kernels::inverse::inverse` meets its contract. Assumes nothing.
 use mathlib.Core.Path.{_≡_}
-use mathlib.Core.Bool.{true, _&&_}
+use mathlib.Core.Bool.{true}
+use mathlib.Core.List.{[], _∷_}
 use Prim.Native.Nat.{_*_}
 use lib.ListN.{length}
 use denote.Ref.{now}
 use borrow.Author.Needs.{needs}
 use Rattle.vectors.specs.Vector.{all-finite}
-use Rattle.vectors.specs.Refusal.{size, sized, room}
+use Rattle.vectors.specs.Refusal.{all-hold, size, sized, room}
 use Rattle.vectors.proofs.Sizes.{failed, passed}
 use Rattle.kernels.proofs.Rows.{roomy-same}
 use Rattle.kernels.proofs.Ends.{Lent, lent-true, bad-size, bad-entry, bad-pivot, inverted}
@@ -16,7 +17,7 @@ use Rattle.kernels.proofs.inverse.inverse.Tie as tie
 -- past the two checks
 module _ (c : tie.Else2) where
   sizes : let a = c .before .before .before .before .before .before .before .args in
-      (size (a .n) && sized (a .n * a .n) (now (a .h)) && sized (a .n * a .n) (now (a .out)) && sized (room (a .n)) (now (a .scratch))) ≡ true
+      all-hold (size (a .n) ∷ sized (a .n * a .n) (now (a .h)) ∷ sized (a .n * a .n) (now (a .out)) ∷ sized (room (a .n)) (now (a .scratch)) ∷ []) ≡ true
   sizes = passed (c .before .before .before .sized .ensures) (c .before .before .if1 .left)
 
   entries : all-finite (now (c .before .before .before .before .before .before .before .args .h)) ≡ true

@@ -9,4 +9,5 @@ pub sound-spec : {M : Type 1} → statement M
 unfolding sound
 sound-spec =
     tie.close
-    (tie.spec (λ c κs. search needs) (λ c κs. search needs) (λ c κs. search needs) (λ c. c .all .ensures ∙ rw (c .before .before .in-range .ensures, c .before .steady .ensures)))
+    (tie.spec (λ c κs. search needs) (λ c κs. search needs) (λ c. search needs) (λ c κs. search needs)
+    (λ c. let kept = c .before .before in c .all-hold .ensures ∙ rw (kept .before .in-range .ensures, kept .steady .ensures)))

@@ -8,7 +8,7 @@ returns : tie.Need-returns
 returns c =
     let sound = c .before in
     let sized = sound .before in
-    c .verdict .ensures ∙ rw (sized .all .ensures, sized .before .all-sized .ensures, sound .sound .ensures)
+    c .verdict .ensures ∙ rw (sized .all-hold .ensures, sized .before .before .all-sized .ensures, sound .sound .ensures)
 
 pub judgement-checked-spec : {M : Type 1} → statement M
-judgement-checked-spec = tie.close (tie.spec (λ c κs. search needs) (λ c κs. search needs) (λ c κs. search needs) (λ c κs. search needs) returns)
+judgement-checked-spec = tie.close (tie.spec (λ c κs. search needs) (λ c. search needs) (λ c κs. search needs) (λ c κs. search needs) (λ c κs. search needs) returns)

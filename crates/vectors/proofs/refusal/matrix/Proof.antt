@@ -1,7 +1,8 @@
 -- `vectors::refusal::matrix` meets its contract. Assumes nothing.
+use mathlib.Core.Path.{sym}
 use native.Mathlib.Omega.{arith}
 use borrow.Author.Needs.{needs}
-use Rattle.vectors.proofs.Sizes.{failed, passed, size-true, square-small}
+use Rattle.vectors.proofs.Sizes.{failed, passed, one-holds, size-small}
 use Rattle.vectors.proofs.refusal.matrix.Statement.{statement}
 use Rattle.vectors.proofs.refusal.matrix.Tie as tie
 
@@ -11,5 +12,5 @@ matrix-spec =
     (tie.spec
     (λ c κs. search needs)
     (λ c. rw (failed (c .before .size .ensures) (c .if1 .taken)))
-    (λ c. omega (arith, square-small _ (size-true _ (passed (c .before .size .ensures) (c .if1 .left)) .1)))
-    (λ c. rw (passed (c .before .size .ensures) (c .if1 .left))))
+    (λ c. omega (arith, size-small _ (passed (c .before .size .ensures) (c .if1 .left))))
+    (λ c. rw (passed (c .before .size .ensures) (c .if1 .left)) (sym (one-holds _))))

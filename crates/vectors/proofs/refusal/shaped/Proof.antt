@@ -1,18 +1,16 @@
--- `vectors::refusal::shaped` meets its contract: where the matrix is right, so is n. Assumes nothing.
-use Prim.Native.Nat.{_*_}
-use lib.Dec.{eqb}
+-- `vectors::refusal::shaped` meets its contract. Assumes nothing.
+use native.Mathlib.Omega.{arith}
 use borrow.Author.Needs.{needs}
-use Rattle.vectors.specs.Refusal.{size}
-use Rattle.vectors.proofs.Sizes.{failed, passed, both}
+use Rattle.vectors.proofs.Sizes.{failed, passed, size-small}
 use Rattle.vectors.proofs.refusal.shaped.Statement.{statement}
 use Rattle.vectors.proofs.refusal.shaped.Tie as tie
 
-returns : tie.Need-returns-2
-returns c =
-    let a = c .before .before .before .args in
-    let square = passed (c .before .before .matrix .ensures) (c .before .if1 .left) in
-    let right = both (size (a .n)) (eqb (a .h) (a .n * a .n)) square .0 in
-    rw square (rw right at (c .vectors .ensures))
-
 pub shaped-spec : {M : Type 1} → statement M
-shaped-spec = tie.close (tie.spec (λ c κs. search needs) (λ c. rw (failed (c .before .matrix .ensures) (c .if1 .taken))) (λ c κs. search needs) returns)
+shaped-spec =
+    tie.close
+    (tie.spec
+    (λ c κs. search needs)
+    (λ c. rw (failed (c .before .size .ensures) (c .if1 .taken)))
+    (λ c. omega (arith, size-small _ (passed (c .before .size .ensures) (c .if1 .left))))
+    (λ c. search needs) (λ c κs. search needs)
+    (λ c. let right = c .before .before in rw (passed (right .before .size .ensures) (right .if1 .left)) (c .all-hold .ensures)))

@@ -1,7 +1,6 @@
 -- `vectors::vector::norm` meets its contract. Assumes nothing.
 use mathlib.Core.Path.{ap}
 use borrow.Author.Needs.{needs}
-use borrow.Author.Tests.{eq-eqb, ne-eqb}
 use Rattle.vectors.specs.Refusal.{given}
 use Rattle.vectors.proofs.Sizes.{failed, passed}
 use Rattle.vectors.proofs.vector.norm.Statement.{statement}
@@ -11,10 +10,7 @@ pub norm-spec : {M : Type 1} → statement M
 norm-spec =
     tie.close
     (tie.spec
+    (λ c κs. search needs) (λ c. search needs) (λ c κs. search needs)
+    (λ c. let tested = c .before in rw (failed (rw (tested .before .before .size .ensures) at (tested .all-hold .ensures)) (c .if1 .taken)))
     (λ c κs. search needs)
-    (λ c. rw (failed (c .before .size .ensures) (c .if1 .taken)))
-    (λ c. rw (passed (c .before .before .size .ensures) (c .before .if1 .left), ne-eqb _ _ (c .if2 .taken)))
-    (λ c κs. search needs)
-    (λ c.
-    rw (passed (c .before .before .before .size .ensures) (c .before .before .if1 .left), eq-eqb _ _ (c .before .if2 .left))
-    (ap given (c .norm-any .ensures))))
+    (λ c. let tested = c .before .before in rw (passed (rw (tested .before .before .size .ensures) at (tested .all-hold .ensures)) (c .before .if1 .left)) (ap given (c .norm-any .ensures))))
