@@ -1,4 +1,4 @@
-// A kernel's choice: one door for both sessions, and the way that every direct caller goes.
+// A kernel's choice: one inner door for both sessions, and the way that every direct caller goes.
 use crate::cauchypoint;
 use crate::dogleg;
 use crate::kernel;
@@ -67,8 +67,11 @@ fn asked(choice: Choice) -> bool
     known(choice.kernel)
 }
 
-// A session has made its own checks; here stand those without which no kernel can run. The step is left in the scratch.
-pub fn lay(
+// The sessions' door, for callers that have looked. Asked here is what no kernel can run without: n, the lengths, and the
+// kernel's number. A radius that is zero, negative or a NaN, an epsilon or a limit out of range, and a NaN in the gradient
+// or the Hessian are taken as they come. The step is left in the scratch. It is public since the sessions stand in crates
+// of their own, and the language has no narrower word for that; other callers use `direct`.
+pub fn lay_unchecked(
     choice: Choice,
     n: usize,
     radius: f64,
@@ -128,7 +131,7 @@ pub fn direct(
     match verdict {
         Verdict::Failed(r) => Stepped::Refused(r),
         Verdict::Passed => {
-            let found = lay(choice, n, radius, gradient, hessian, scratch);
+            let found = lay_unchecked(choice, n, radius, gradient, hessian, scratch);
             kernel::hand_over(n, found, step, scratch)
         }
     }

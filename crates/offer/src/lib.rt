@@ -83,8 +83,10 @@ fn hand_out(
     measured(n, gradient, hessian, passes, step)
 }
 
-// The kernel that is chosen is run, and its step and the trial are written, unless a refusal is due.
-pub fn make(
+// The kernel that is chosen is run, and its step and the trial are written, unless a refusal is due. A door for sessions
+// that have looked, and public for the same reason as `lay_unchecked`, which it calls: n, all lengths and the kernel's
+// number are asked here, and no radius, epsilon, limit or entry.
+pub fn make_unchecked(
     choice: Choice,
     n: usize,
     radius: f64,
@@ -110,7 +112,7 @@ pub fn make(
     ) {
         return Offered::Refused(Refusal::Size);
     }
-    let laid = choice::lay(choice, n, radius, gradient, hessian, scratch);
+    let laid = choice::lay_unchecked(choice, n, radius, gradient, hessian, scratch);
     match laid {
         Stepped::Refused(r) => Offered::Refused(r),
         Stepped::In(passes) => {

@@ -95,7 +95,7 @@ fn stepped(
             outcome: Outcome::Refused(Refusal::Radius),
         };
     }
-    let offered = offer::make(
+    let offered = offer::make_unchecked(
         choice,
         n,
         radius,

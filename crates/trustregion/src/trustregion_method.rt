@@ -102,7 +102,7 @@ pub fn proposed(
             outcome: Outcome::Refused(r),
         },
         Verdict::Passed => {
-            let offered = offer::make(
+            let offered = offer::make_unchecked(
                 choice,
                 n,
                 radius,

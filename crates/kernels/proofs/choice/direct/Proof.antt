@@ -39,15 +39,15 @@ returns-2 c =
     let told = laid .before .before in
     let a = told .before .before .before .before .before .before .before .before .args in
     let opens = opened (a .choice) (a .n) (a .radius) (now (a .gradient)) (now (a .hessian)) (now (a .scratch)) (sizes told) (named told) in
-    took _ _ _ _ _ _ _ _ (laid .lay .kept .1 .1 .1 .1 .1 .0) (over-ready _ (sizes told) refl .1) (handed .hand-over .ensures) _ _ _ _ _ _ (judges (told .before .before)) (told .enum-told .given .1)
-    (kernel-proper _ _ _ _ _) (rw opens at (laid .lay .ensures))
+    took _ _ _ _ _ _ _ _ (laid .lay-unchecked .kept .1 .1 .1 .1 .1 .0) (over-ready _ (sizes told) refl .1) (handed .hand-over .ensures) _ _ _ _ _ _ (judges (told .before .before)) (told .enum-told .given .1)
+    (kernel-proper _ _ _ _ _) (rw opens at (laid .lay-unchecked .ensures))
 
 pub direct-spec : {M : Type 1} → statement M
 direct-spec =
     tie.close
     (tie.spec
     (λ c κs. search needs) (λ c κs. search needs) (λ c. search needs) (λ c. search needs) (λ c κs. search needs)
-    (λ c κs. let laid = c .before .before .before .before in over-ready _ (sizes (laid .before .before)) (laid .lay .kept .1 .1 .1 .1 .1 .0))
+    (λ c κs. let laid = c .before .before .before .before in over-ready _ (sizes (laid .before .before)) (laid .lay-unchecked .kept .1 .1 .1 .1 .1 .0))
     (λ c. took-none _ _ _ _ _ _ _ _ (judges (c .before .before .before)) _ _ (c .before .verdict .given .1))
     (λ c. search needs) (λ c. search needs)
     returns-2)

@@ -20,14 +20,14 @@ returns-2 : tie.Need-returns-2
 returns-2 c =
     let made = c .before .before .before .before .before .before .before .before .before in
     let told = made .before .before .before .before in
-    proposes-no-step _ _ _ _ _ _ _ _ _ (judges (told .before .before)) (told .enum-told .given .1) _ _ _ _ (made .make .ensures) _ (c .before .offered .given .1)
+    proposes-no-step _ _ _ _ _ _ _ _ _ (judges (told .before .before)) (told .enum-told .given .1) _ _ _ _ (made .make-unchecked .ensures) _ (c .before .offered .given .1)
 
 returns-3 : tie.Need-returns-3
 returns-3 c =
     let offered = c .before .before in
     let made = offered .before .before .before .before .before .before .before .before in
     let told = made .before .before .before .before in
-    proposes-step _ _ _ _ _ _ _ _ _ (judges (told .before .before)) (told .enum-told .given .1) _ _ _ _ (made .make .ensures) _ _ _ _ _ (offered .offered2 .given .1) (c .model-value .ensures)
+    proposes-step _ _ _ _ _ _ _ _ _ (judges (told .before .before)) (told .enum-told .given .1) _ _ _ _ (made .make-unchecked .ensures) _ _ _ _ _ (offered .offered2 .given .1) (c .model-value .ensures)
 
 pub proposed-spec : {M : Type 1} → statement M
 proposed-spec =

@@ -1,19 +1,19 @@
--- `kernels::choice::lay` meets its contract. Assumes nothing.
+-- `kernels::choice::lay_unchecked` meets its contract. Assumes nothing.
 use lib.ListN.{length}
 use denote.Ref.{now}
 use borrow.Author.Needs.{needs}
 use Rattle.vectors.proofs.Sizes.{failed, passed}
 use Rattle.kernels.proofs.Kernels.{Lent, lent-true, lay-ready}
 use Rattle.kernels.proofs.Choices.{shut-size, shut-kernel, door-first, door-second, door-third}
-use Rattle.kernels.proofs.choice.lay.Statement.{statement}
-use Rattle.kernels.proofs.choice.lay.Tie as tie
+use Rattle.kernels.proofs.choice.lay_unchecked.Statement.{statement}
+use Rattle.kernels.proofs.choice.lay_unchecked.Tie as tie
 
 -- past the first test the sizes are right
 sizes : (c : tie.Else1) → let a = c .before .before .before .before .before .args in Lent (a .n) (length (now (a .hessian))) (length (now (a .gradient))) (a .n) (length (now (a .scratch)))
 sizes c = lent-true _ _ _ _ _ (passed (c .before .sized .ensures) (c .if1 .left))
 
-pub lay-spec : {M : Type 1} → statement M
-lay-spec =
+pub lay-unchecked-spec : {M : Type 1} → statement M
+lay-unchecked-spec =
     tie.close
     (tie.spec
     (λ c κs. search needs)

@@ -1,22 +1,22 @@
--- `offer::make` meets its contract. Assumes nothing.
+-- `offer::make_unchecked` meets its contract. Assumes nothing.
 use borrow.Author.Needs.{needs}
 use Rattle.vectors.proofs.Sizes.{failed, passed}
 use Rattle.offer.proofs.Lengths.{lent-true, hand-out-ready}
 use Rattle.offer.proofs.Offers.{no-size, no-step, step-made}
-use Rattle.offer.proofs.make.Statement.{statement}
-use Rattle.offer.proofs.make.Tie as tie
+use Rattle.offer.proofs.make_unchecked.Statement.{statement}
+use Rattle.offer.proofs.make_unchecked.Tie as tie
 
 hand-out-requires : tie.Need-hand-out-requires
 hand-out-requires c κs =
     let laid = c .before .before .before .before .before .before .before .before in
     let tested = laid .before .before in
-    hand-out-ready _ (lent-true _ _ _ _ _ _ _ (passed (tested .before .all-sized .ensures) (tested .if1 .left))) (laid .lay .kept .1 .1 .1 .1 .1 .0)
+    hand-out-ready _ (lent-true _ _ _ _ _ _ _ (passed (tested .before .all-sized .ensures) (tested .if1 .left))) (laid .lay-unchecked .kept .1 .1 .1 .1 .1 .0)
 
 returns-2 : tie.Need-returns-2
 returns-2 c =
     let laid = c .before .before .before .before .before in
     let tested = laid .before .before in
-    no-step _ _ _ _ _ _ _ _ _ (passed (tested .before .all-sized .ensures) (tested .if1 .left)) _ _ (laid .lay .ensures) _ (c .before .laid .given .1)
+    no-step _ _ _ _ _ _ _ _ _ (passed (tested .before .all-sized .ensures) (tested .if1 .left)) _ _ (laid .lay-unchecked .ensures) _ (c .before .laid .given .1)
 
 returns-3 : tie.Need-returns-3
 returns-3 c =
@@ -24,10 +24,10 @@ returns-3 c =
     let told = handed .before .before .before .before .before in
     let laid = told .before .before .before .before in
     let tested = laid .before .before in
-    step-made _ _ _ _ _ _ _ _ _ (passed (tested .before .all-sized .ensures) (tested .if1 .left)) _ _ (laid .lay .ensures) _ _ _ _ _ (told .laid2 .given .1) (laid .lay .kept .1 .1 .1 .1 .1 .0) (handed .hand-out .ensures)
+    step-made _ _ _ _ _ _ _ _ _ (passed (tested .before .all-sized .ensures) (tested .if1 .left)) _ _ (laid .lay-unchecked .ensures) _ _ _ _ _ (told .laid2 .given .1) (laid .lay-unchecked .kept .1 .1 .1 .1 .1 .0) (handed .hand-out .ensures)
 
-pub make-spec : {M : Type 1} → statement M
-make-spec =
+pub make-unchecked-spec : {M : Type 1} → statement M
+make-unchecked-spec =
     tie.close
     (tie.spec
     (λ c κs. search needs)
