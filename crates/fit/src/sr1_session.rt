@@ -35,13 +35,7 @@ pub(crate) fn begin(kernel: u64, numbers: [f64; 5], limit: u64, cost: f64) -> Ha
     let start = sr1_trustregion::start(settings, cost);
     match start {
         Start::Refused(r) => {
-            let radius = numbers[0];
-            let none = Session {
-                settings,
-                radius,
-                cost,
-                phase: Phase::Ready,
-            };
+            let none = sr1::session::begin(settings, numbers[0], cost);
             happened(none, Event::NotStarted(r))
         }
         Start::Started(s) => happened(s, Event::Started(cost, s.radius)),
@@ -113,17 +107,11 @@ pub(crate) fn ended(session: Session) -> Event {
 }
 
 pub(crate) fn changed(session: Session, to: Change) -> Happened {
-    let settings = session.settings;
     let number = to.phase;
     let phase = match number {
         0 => Phase::Ready,
         _ => Phase::AwaitingCost(to.a, to.b),
     };
-    let changed = Session {
-        settings,
-        radius: to.radius,
-        cost: to.cost,
-        phase,
-    };
+    let changed = sr1::session::moved(session, to.radius, to.cost, phase);
     happened(changed, session::event_of(to, 1))
 }

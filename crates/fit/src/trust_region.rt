@@ -39,12 +39,7 @@ pub(crate) fn begin(kernel: u64, numbers: [f64; 5], limit: u64, cost: f64) -> Ha
     match start {
         Start::Started(s) => happened(s, Event::Started(cost, radius)),
         Start::Refused(r) => {
-            let none = Session {
-                settings,
-                radius,
-                cost,
-                phase: Phase::Ready,
-            };
+            let none = trustregion::session::begin(settings, radius, cost);
             happened(none, Event::NotStarted(r))
         }
     }
@@ -169,19 +164,13 @@ fn renewed(
 }
 
 pub(crate) fn changed(session: Session, to: Change) -> Happened {
-    let settings = session.settings;
     let number = to.phase;
     let phase = match number {
         0 => Phase::Ready,
         1 => Phase::AwaitingCost(to.a, to.b),
         _ => Phase::AwaitingDerivatives,
     };
-    let changed = Session {
-        settings,
-        radius: to.radius,
-        cost: to.cost,
-        phase,
-    };
+    let changed = trustregion::session::moved(session, to.radius, to.cost, phase);
     happened(changed, session::event_of(to, 2))
 }
 

@@ -6,22 +6,23 @@ use Prim.Native.Nat.{ℕ, _+_, _*_, _-_, _≤_}
 use native.Mathlib.Omega.{arith}
 use lib.ListN.{length, take, drop}
 use lib.Seq.{take-at}
-use lib.Ieee.{Float}
+use lib.Ieee.{Float, eq}
 use borrow.Author.Tests.{eq-eqb}
+use Rattle.float.specs.Constants.{nought}
 use Rattle.vectors.specs.Vector.{plus, zeros, all-finite}
 use Rattle.vectors.specs.Slots.{slot, Puts}
-use Rattle.vectors.specs.Refusal.{Answer, refused, given, then, all-hold, size, sized, room, scratch-after}
+use Rattle.vectors.specs.Refusal.{Answer, refused, given, unless, then, all-hold, size, sized, room, scratch-after}
 use Rattle.kernels.specs.Kernel.{Made, made, Proper, Laid}
 use Rattle.kernels.specs.Choice.{known, kernel, door}
 use Rattle.kernels.specs.declared.choice.Choice.{Choice}
 use Rattle.vectors.specs.declared.refusal.Refusal.{Refusal}
-use Rattle.vectors.specs.declared.refusal.Refusal.the-variants.{Size, Setting, Range}
+use Rattle.vectors.specs.declared.refusal.Refusal.the-variants.{Size, Setting, Radius, Range}
 use Rattle.kernels.specs.declared.kernel.Stepped.{Stepped}
 use Rattle.kernels.specs.declared.kernel.Stepped.the-variants as stepped
 use Rattle.vectors.proofs.Slots.{length-slot}
 use Rattle.vectors.proofs.Sizes.{size-test}
 use Rattle.kernels.proofs.Choices.{kernel-proper}
-use Rattle.offer.specs.Offer.{all-sized, Offer, offered, offer}
+use Rattle.offer.specs.Offer.{all-sized, offered, offer, step-checks, stepping}
 use Rattle.offer.specs.Calls.{replaced, offering, measured, Offers}
 use Rattle.offer.specs.declared.Offered.{Offered}
 use Rattle.offer.specs.declared.Offered.the-variants.{Refused, Step}
@@ -103,22 +104,24 @@ module _ (c : Choice) (n : ℕ) (radius : Float) (point g H step trial w : List 
   no-size e = rw e (record { says = refl; leaves-step = refl; leaves-trial = refl; leaves-scratch = refl })
 
   module _ (e : all-sized n point g H step trial w ≡ true) where
-    opens : offering c n radius point g H step trial w ≡ then (offer n point) (door c n radius g H w)
+    checked : offering c n radius point g H step trial w ≡ unless (step-checks radius) (then (offer n point) (door c n radius g H w))
     unfolding offering
-    opens = rw e
+    checked = rw e
 
     -- by the chosen kernel itself, which a session's definitions speak of
-    pub offers-kernel : known (c .kernel) ≡ true
-        → offering c n radius point g H step trial w ≡ then (offer n point) (kernel c n radius g H)
+    pub offers-kernel : known (c .kernel) ≡ true → offering c n radius point g H step trial w ≡ stepping (kernel c) n radius point g H
     unfolding door
     offers-kernel k =
         let l = lent-true n (length point) (length g) (length H) (length step) (length trial) (length w) e in
-        opens ∙ rw (size-test (l .square), eq-eqb (length H) (n * n) (l .square .long), eq-eqb (length g) n (l .gradient), eq-eqb (length w) (room n) (l .scratch), k)
+        checked ∙ rw (size-test (l .square), eq-eqb (length H) (n * n) (l .square .long), eq-eqb (length g) n (l .gradient), eq-eqb (length w) (room n) (l .scratch), k)
 
-    module _ (found : Stepped) (w₁ : List Float) (laid : Laid (door c n radius g H w) found w w₁) where
+    pub no-radius : eq radius nought ≡ true → Offers n g H (offering c n radius point g H step trial w) (Refused Radius) step trial w step trial w
+    no-radius z = rw (checked, z) (record { says = refl; leaves-step = refl; leaves-trial = refl; leaves-scratch = refl })
+
+    module _ (far : eq radius nought ≡ false) (found : Stepped) (w₁ : List Float) (laid : Laid (door c n radius g H w) found w w₁) where
       pub no-step : (r : Refusal) → found ≡ stepped.Refused r
           → Offers n g H (offering c n radius point g H step trial w) (Refused r) step trial w step trial w₁
-      no-step r f = rw opens (go (door c n radius g H w) laid) where
+      no-step r f = rw (checked, far) (go (door c n radius g H w) laid) where
         go : (a : Answer Made) → Laid a found w w₁ → Offers n g H (then (offer n point) a) (Refused r) step trial w step trial w₁
         go (refused x) h = let same : r ≡ x = (let both : stepped.Refused r ≡ stepped.Refused x = sym f ∙ h .says in cc) in record { says = ap Refused same; leaves-step = refl; leaves-trial = refl; leaves-scratch = h .lays }
         go (given m) h = absurd (let both : stepped.Refused r ≡ stepped.In (m .passes) = sym f ∙ h .says in let z : _≡_ {A = ℕ} 0 1 = cc in omega arith)
@@ -126,7 +129,7 @@ module _ (c : Choice) (n : ℕ) (radius : Float) (point g H step trial w : List 
       pub step-made : (passes : ℕ) (r : Offered) (step′ trial′ w′ : List Float) → found ≡ stepped.In passes → length w₁ ≡ length w
           → Offers n g H (offer n point (made passes (slot w₁ n 0))) r step trial w₁ step′ trial′ w′
           → Offers n g H (offering c n radius point g H step trial w) r step trial w step′ trial′ w′
-      step-made passes r step′ trial′ w′ f l o = rw opens (go (door c n radius g H w) laid door-long) where
+      step-made passes r step′ trial′ w′ f l o = rw (checked, far) (go (door c n radius g H w) laid door-long) where
         go : (a : Answer Made) → Laid a found w w₁ → ((m : Made) → a ≡ given m → length (m .step) ≡ n) → Offers n g H (then (offer n point) a) r step trial w step′ trial′ w′
         go (refused x) h long = absurd (let both : stepped.In passes ≡ stepped.Refused x = sym f ∙ h .says in let z : _≡_ {A = ℕ} 0 1 = cc in omega arith)
         go (given m) h long =
@@ -134,14 +137,3 @@ module _ (c : Choice) (n : ℕ) (radius : Float) (point g H step trial w : List 
             let first : slot w₁ n 0 ≡ m .step = ap (λ (v : List Float). slot v n 0) (h .lays) ∙ slot-laid (m .step) _ n (long m refl) in
             let o′ : Offers n g H (offer n point m) r step trial w₁ step′ trial′ w′ = rw (count, first) at o in
             record { says = o′ .says; leaves-step = o′ .leaves-step; leaves-trial = o′ .leaves-trial; leaves-scratch = o′ .leaves-scratch ∙ scratch-same n point m w₁ w l }
-
--- ---- what the code found says of the answer
-
-module _ {n : ℕ} {g H : List Float} {found : Offered} {step trial w step′ trial′ w′ : List Float} where
-  pub found-none : (a : Answer Offer) (r : Refusal) → Offers n g H a found step trial w step′ trial′ w′ → found ≡ Refused r → a ≡ refused r
-  found-none (refused x) r o f = let same : r ≡ x = (let both : Refused r ≡ Refused x = sym f ∙ o .says in cc) in ap refused (sym same)
-  found-none (given x) r o f = absurd (let both = sym f ∙ o .says in let z : _≡_ {A = ℕ} 0 1 = cc in omega arith)
-
-  pub found-step : (a : Answer Offer) (passes : ℕ) (slope curvature long : Float) → Offers n g H a found step trial w step′ trial′ w′ → found ≡ Step passes slope curvature long → (x : Offer) × (a ≡ given x)
-  found-step (refused x) passes slope curvature long o f = absurd (let both = sym f ∙ o .says in let z : _≡_ {A = ℕ} 0 1 = cc in omega arith)
-  found-step (given x) passes slope curvature long o f = (x, refl)

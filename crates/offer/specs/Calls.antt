@@ -10,25 +10,24 @@ use Rattle.vectors.specs.Vector.{dot, weighted, norm, all-finite}
 use Rattle.vectors.specs.Refusal.{Answer, refused, given, Check, _if_, unless, then, size, left-in, scratch-after}
 use Rattle.kernels.specs.Choice.{door}
 use Rattle.kernels.specs.declared.choice.Choice.{Choice}
-use Rattle.vectors.specs.declared.refusal.Refusal.the-variants.{Size, Setting, Turn, Entry, Radius}
-use Rattle.offer.specs.Offer.{all-sized, Offer, offer}
+use Rattle.vectors.specs.declared.refusal.Refusal.the-variants.{Size, Setting, Turn, Entry}
+use Rattle.offer.specs.Offer.{all-sized, Offer, offer, step-checks}
 use Rattle.offer.specs.declared.Offered.{Offered}
 use Rattle.offer.specs.declared.Offered.the-variants as offered
 
--- refusals 1 to 5, by what each of them asks
-abbrev pub early-checks : (sized sound in-turn finite zero-radius : Bool) → List Check
-early-checks sized sound in-turn finite zero-radius =
+-- refusals 1 to 4, by what each of them asks
+abbrev pub early-checks : (sized sound in-turn finite : Bool) → List Check
+early-checks sized sound in-turn finite =
     (Size if not sized)
     ∷ (Setting if not sound)
     ∷ (Turn if not in-turn)
     ∷ (Entry if not finite)
-    ∷ (Radius if zero-radius)
     ∷ []
 
 -- those of a proposal
-abbrev pub proposal-checks : ℕ → (sound ready zero-radius : Bool) → (point gradient hessian step trial scratch : List Float) → List Check
-proposal-checks n sound ready zero-radius point gradient hessian step trial scratch =
-    early-checks (all-sized n point gradient hessian step trial scratch) sound ready (all-finite point && all-finite gradient && all-finite hessian) zero-radius
+abbrev pub proposal-checks : ℕ → (sound ready : Bool) → (point gradient hessian step trial scratch : List Float) → List Check
+proposal-checks n sound ready point gradient hessian step trial scratch =
+    early-checks (all-sized n point gradient hessian step trial scratch) sound ready (all-finite point && all-finite gradient && all-finite hessian)
 
 -- what a vector becomes that takes the numbers of another: one of another length stays
 abbrev pub replaced : (from to : List Float) → List Float
@@ -36,11 +35,11 @@ replaced from to = cond (eqb (length to) (length from)) from to
 
 -- ---- a step is offered
 
--- the kernel's door, with the vectors of a proposal beside its own, and then the trial
+-- refusal 5 and the kernel's door, with the vectors of a proposal beside its own, and then the trial
 unfoldable pub offering : Choice → ℕ → (radius : Float) → (point gradient hessian step trial scratch : List Float) → Answer Offer
 unfolding size door offer
 offering c n radius point gradient hessian step trial scratch =
-    unless ((Size if not (all-sized n point gradient hessian step trial scratch)) ∷ [])
+    unless ((Size if not (all-sized n point gradient hessian step trial scratch)) ∷ step-checks radius)
     (then (offer n point) (door c n radius gradient hessian scratch))
 
 -- a step p with its passes, p·g, p·H·p and ‖p‖

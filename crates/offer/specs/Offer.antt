@@ -1,14 +1,14 @@
 -- What every session that offers a step shares. Definitions only.
-use mathlib.Core.Bool.{Bool, not}
+use mathlib.Core.Bool.{Bool, not, _||_}
 use mathlib.Core.List.{List, [], _∷_}
 use Prim.Native.Nat.{ℕ, _*_}
-use lib.Ieee.{Float, le}
+use lib.Ieee.{Float, le, eq, isNan}
 use Rattle.float.specs.Numbers.{finite}
 use Rattle.float.specs.Constants.{nought}
 use Rattle.vectors.specs.Vector.{plus, all-finite}
-use Rattle.vectors.specs.Refusal.{Answer, given, Check, _if_, unless, all-hold, size, sized, room}
-use Rattle.kernels.specs.Kernel.{Made}
-use Rattle.vectors.specs.declared.refusal.Refusal.the-variants.{Range}
+use Rattle.vectors.specs.Refusal.{Answer, given, Check, _if_, unless, then, all-hold, size, sized, room}
+use Rattle.kernels.specs.Kernel.{Made, Kernel}
+use Rattle.vectors.specs.declared.refusal.Refusal.the-variants.{Radius, Range}
 
 -- "n is 1 to 64. Vectors have n numbers, matrices n·n by rows, scratch 2·n·n + 8·n, each exactly."
 abbrev pub all-sized : ℕ → (point gradient hessian step trial scratch : List Float) → Bool
@@ -18,6 +18,11 @@ all-sized n point gradient hessian step trial scratch =
 -- not "a session with negative or not finite radius, or cost not finite"
 abbrev pub steady : (radius cost : Float) → Bool
 steady radius cost = all-hold (finite radius ∷ le nought radius ∷ finite cost ∷ [])
+
+-- not "trial cost infinite (NaN is taken)"
+unfoldable pub cost-taken : (F : Float) → Bool
+unfolding finite
+cost-taken F = finite F || isNan F
 
 -- what a proposal hands out
 pub record Offer : Type 0 where
@@ -36,3 +41,11 @@ offer-checks o = (Range if not (all-finite (o .trial))) ∷ []
 unfoldable pub offer : ℕ → (point : List Float) → Made → Answer Offer
 unfolding plus all-finite
 offer n point m = unless (offer-checks (offered n point m)) (given (offered n point m))
+
+-- "5: a proposal from a session whose radius is zero"
+abbrev pub step-checks : (radius : Float) → List Check
+step-checks radius = (Radius if eq radius nought) ∷ []
+
+-- "propose runs the kernel, writes step and trial = step + point"
+abbrev pub stepping : Kernel → ℕ → (radius : Float) → (point gradient hessian : List Float) → Answer Offer
+stepping kernel n radius point gradient hessian = unless (step-checks radius) (then (offer n point) (kernel n radius gradient hessian))

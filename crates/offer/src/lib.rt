@@ -112,6 +112,9 @@ pub fn make_unchecked(
     ) {
         return Offered::Refused(Refusal::Size);
     }
+    if radius == 0.0 {
+        return Offered::Refused(Refusal::Radius);
+    }
     let laid = choice::lay_unchecked(choice, n, radius, gradient, hessian, scratch);
     match laid {
         Stepped::Refused(r) => Offered::Refused(r),

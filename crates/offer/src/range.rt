@@ -1,4 +1,4 @@
-// What both sessions check: the ranges of their settings and of what they keep, and refusals 1 to 5.
+// What both sessions check: the ranges of their settings and of what they keep, and refusals 1 to 4.
 use crate::lent;
 use vectors::refusal;
 use vectors::refusal::Refusal;
@@ -15,9 +15,19 @@ pub fn steady(radius: f64, cost: f64) -> bool
     refusal::all_hold(&[float::finite(radius), 0.0 <= radius, float::finite(cost)])
 }
 
-// Refusals 1 to 5 in the order of document 01's table. A call that lacks a check passes it.
-pub fn verdict(sized: bool, sound: bool, in_turn: bool, finite: bool, zero_radius: bool) -> Verdict
-    ensures { λ r. ⌜ r ≡ judged (Calls.early-checks sized sound «in_turn» finite «zero_radius») ⌝ }
+// A hidden marker's cost is a NaN: that is an answer, an infinity is none.
+pub fn cost_taken(cost: f64) -> bool
+    ensures { λ r. ⌜ r ≡ Offer.cost-taken cost ⌝ }
+{
+    if float::finite(cost) {
+        return true;
+    }
+    float::is_nan(cost)
+}
+
+// Refusals 1 to 4 in the order of document 01's table. A call that lacks a check passes it.
+pub fn verdict(sized: bool, sound: bool, in_turn: bool, finite: bool) -> Verdict
+    ensures { λ r. ⌜ r ≡ judged (Calls.early-checks sized sound «in_turn» finite) ⌝ }
 {
     if !sized {
         return Verdict::Failed(Refusal::Size);
@@ -31,18 +41,14 @@ pub fn verdict(sized: bool, sound: bool, in_turn: bool, finite: bool, zero_radiu
     if !finite {
         return Verdict::Failed(Refusal::Entry);
     }
-    if zero_radius {
-        return Verdict::Failed(Refusal::Radius);
-    }
     Verdict::Passed
 }
 
-// What a proposal is checked for, where the session tells whether it is sound and ready and its radius zero.
+// What a proposal is checked for first, where the session tells whether it is sound and ready.
 pub fn proposal(
     n: usize,
     sound: bool,
     ready: bool,
-    zero_radius: bool,
     point: &[f64],
     gradient: &[f64],
     hessian: &[f64],
@@ -50,7 +56,7 @@ pub fn proposal(
     trial: &[f64],
     scratch: &[f64],
 ) -> Verdict
-    ensures { λ r. ⌜ r ≡ judged (Calls.proposal-checks n sound ready «zero_radius» (now (point .entry)) (now (gradient .entry)) (now (hessian .entry)) (now (step .entry)) (now (trial .entry)) (now (scratch .entry))) ⌝ }
+    ensures { λ r. ⌜ r ≡ judged (Calls.proposal-checks n sound ready (now (point .entry)) (now (gradient .entry)) (now (hessian .entry)) (now (step .entry)) (now (trial .entry)) (now (scratch .entry))) ⌝ }
 {
     let sized = lent::all_sized(
         n,
@@ -62,5 +68,5 @@ pub fn proposal(
         scratch.len(),
     );
     let finite = lent::inputs_finite(point, gradient, hessian);
-    verdict(sized, sound, ready, finite, zero_radius)
+    verdict(sized, sound, ready, finite)
 }

@@ -1,47 +1,41 @@
 -- How each call ends: its contract, from what its code has found out. Assumes nothing.
 use mathlib.Core.Path.{_≡_, refl, sym, ap, _∙_}
-use mathlib.Core.Bool.{Bool, true, false, cond, not, _||_}
+use mathlib.Core.Bool.{Bool, true, false, cond, not}
 use mathlib.Core.List.{List, [], _∷_}
 use Prim.Native.Nat.{ℕ, zero, suc, _≤_}
 use native.Mathlib.Omega.{arith}
 use lib.ListN.{length}
-use lib.Ieee.{Float, neg, lt, eq, isNan}
+use lib.Ieee.{Float, lt}
 use lib.Ieee.Bits.{is-true}
 use borrow.Author.Tests.{eqb-true}
-use Rattle.float.specs.Numbers.{_⊖_, _⊗_, finite, magnitude}
-use Rattle.float.specs.Constants.{nought, half}
+use Rattle.float.specs.Numbers.{finite, magnitude}
 use Rattle.float.proofs.Commute.{mul-commutes}
 use Rattle.vectors.specs.Vector.{zeros, dot-to, dot, all-finite}
 use Rattle.vectors.specs.Refusal.{Answer, refused, given, Check, _if_, then, judged, all-hold, sized, Square}
 use Rattle.kernels.specs.Choice as Choice
 use Rattle.vectors.specs.declared.refusal.Refusal.{Refusal}
-use Rattle.vectors.specs.declared.refusal.Refusal.the-variants.{Size, Setting, Turn, Entry, Radius, Range}
+use Rattle.vectors.specs.declared.refusal.Refusal.the-variants.{Size, Setting, Turn, Entry, Range}
 use Rattle.vectors.specs.declared.refusal.Verdict.{Verdict}
 use Rattle.vectors.specs.declared.refusal.Verdict.the-variants.{Passed, Failed}
 use Rattle.vectors.proofs.Sizes.{Each, each-holds}
 use Rattle.kernels.proofs.Choices.{in-range-known}
 use Rattle.kernels.proofs.Kernels.{unless-passed, unless-failed, early, first-passed}
-use Rattle.offer.specs.Offer.{all-sized, steady, Offer}
+use Rattle.offer.specs.Offer.{all-sized, steady, cost-taken, Offer, stepping}
 use Rattle.offer.specs.Calls.{replaced, offering, Offers}
 use Rattle.offer.specs.declared.Offered.{Offered}
-use Rattle.offer.specs.declared.Offered.the-variants as offered
 use Rattle.offer.proofs.Checks.{passed-none, not-not}
 use Rattle.offer.proofs.Lengths.{Lent, lent-true, copied}
-use Rattle.offer.proofs.Offers.{offers-kernel, found-none, found-step}
+use Rattle.offer.proofs.Offers.{offers-kernel}
 use Rattle.sr1.specs.Settings.{ranges, in-range, chosen}
-use Rattle.sr1.specs.Session.{sound, in-phase, Promise, promised, start-checks, begin, start, converged, done, predicted-fall, awaiting, proposal-checks, stepping, proposal, fall-ratio, next-radius, updated, settled, verdict, judge, judgement-checks, judgement}
+use Rattle.sr1.specs.Session.{sound, moved, Promise, promised, start-checks, begin, start, Proposal, converged, done, predicted-fall, awaiting, proposal-checks, proposal, fall-ratio, next-radius, updated, settled, verdict, judge, judgement-checks, judgement}
 use Rattle.sr1.specs.Calls as Calls
-use Rattle.sr1.specs.Calls.{Proposes, Updates, Judges}
+use Rattle.sr1.specs.Calls.{refusing, after-offer, Proposes, Updates, Judges}
 use Rattle.sr1.specs.declared.settings.Settings.{Settings}
 use Rattle.sr1.specs.declared.session.Session.{Session}
 use Rattle.sr1.specs.declared.session.Start.the-variants as begun
-use Rattle.sr1.specs.declared.session.Phase.the-variants.{Ready, AwaitingCost}
-use Rattle.sr1.specs.declared.session.Outcome.the-variants.{Refused, Done, Proposed, Accepted, Rejected}
+use Rattle.sr1.specs.declared.session.Phase.the-variants.{Ready}
+use Rattle.sr1.specs.declared.session.Outcome.the-variants.{Done, Accepted, Rejected}
 use Rattle.sr1.specs.declared.session.After.{After}
-
--- what every refused call returns
-abbrev pub refusing : Session → Refusal → After
-refusing s r = record { session = s; outcome = Refused r }
 
 -- ---- the start
 
@@ -50,9 +44,9 @@ module _ (t : Settings) (f : Float) (v : Verdict) (judges : v ≡ judged (start-
   unfolding start
   starts-not r e = rw (unless-failed (start-checks t f) (given (begin t (magnitude (t .radius)) f)) r (sym judges ∙ e))
 
-  pub starts : v ≡ Passed → (radius : Float) → radius ≡ magnitude (t .radius) → begun.Started (begin t radius f) ≡ Calls.begun (start t f)
+  pub starts : v ≡ Passed → (radius : Float) → radius ≡ magnitude (t .radius) → (s : Session) → s ≡ begin t radius f → begun.Started s ≡ Calls.begun (start t f)
   unfolding start
-  starts e radius m = rw (m, unless-passed (start-checks t f) (given (begin t (magnitude (t .radius)) f)) (sym judges ∙ e))
+  starts e radius m s is = rw (is, m, unless-passed (start-checks t f) (given (begin t (magnitude (t .radius)) f)) (sym judges ∙ e))
 
 -- ---- the proposal
 
@@ -73,70 +67,59 @@ dot-commutes : (a b : List Float) → length a ≡ length b → dot a b ≡ dot 
 unfolding dot
 dot-commutes a b e = rw e (dot-to-commutes a b (length b))
 
-module _ (s : Session) (n : ℕ) (point gradient hessian step trial scratch : List Float) where
+-- v is the code's verdict on the checks; `after` is what it returns, or the session of that
+module _ (s : Session) (n : ℕ) (point gradient hessian step trial scratch : List Float) (v : Verdict) (judges : v ≡ judged (proposal-checks s n point gradient hessian step trial scratch)) where
   abbrev checks : List Check
   checks = proposal-checks s n point gradient hessian step trial scratch
 
-  -- v is the code's verdict on the checks
-  module _ (v : Verdict) (judges : v ≡ judged checks) where
-    pub proposes-not : (r : Refusal) → v ≡ Failed r → Proposes (proposal chosen s n point gradient hessian step trial scratch) s step trial scratch (refusing s r) step trial scratch
+  abbrev keeping : Answer Offer → Answer Proposal
+  keeping = then (λ (o : Offer). given (awaiting s n gradient hessian o))
+
+  abbrev proposes : Answer Proposal → After → (step′ trial′ scratch′ : List Float) → Type 0
+  proposes a = Proposes a s step trial scratch
+
+  -- unless it is done
+  abbrev going-on : Bool → Answer Proposal
+  going-on b = cond b (given (done s step trial)) (keeping (stepping (chosen (s .settings)) n (s .radius) point gradient hessian))
+
+  pub proposes-not : (r : Refusal) → v ≡ Failed r → (after : After) → after ≡ refusing s r → proposes (proposal chosen s n point gradient hessian step trial scratch) after step trial scratch
+  unfolding proposal
+  proposes-not r e after is =
+      rw (unless-failed checks (going-on (converged s gradient)) r (sym judges ∙ e))
+      (record { says = is; leaves-step = refl; leaves-trial = refl; leaves-scratch = rw (early checks r (refl, (refl, (refl, (refl, tt)))) (sym judges ∙ e)) })
+
+  module _ (e : v ≡ Passed) (b : Bool) (is-done : b ≡ converged s gradient) where
+    on-checks : proposal chosen s n point gradient hessian step trial scratch ≡ going-on b
     unfolding proposal
-    proposes-not r e =
-        rw (unless-failed checks (cond (converged s gradient) (given (done s step trial)) (stepping chosen s n point gradient hessian)) r (sym judges ∙ e))
-        (record { says = refl; leaves-step = refl; leaves-trial = refl; leaves-scratch = rw (early checks r (refl, (refl, (refl, (refl, tt)))) (sym judges ∙ e)) })
+    on-checks = unless-passed checks (going-on (converged s gradient)) (sym judges ∙ e) ∙ rw is-done
 
-    module _ (e : v ≡ Passed) (b : Bool) (is : b ≡ converged s gradient) where
-      on-checks : proposal chosen s n point gradient hessian step trial scratch ≡ cond b (given (done s step trial)) (stepping chosen s n point gradient hessian)
-      unfolding proposal
-      on-checks = unless-passed checks (cond (converged s gradient) (given (done s step trial)) (stepping chosen s n point gradient hessian)) (sym judges ∙ e) ∙ rw is
+    pub proposes-done : b ≡ true → (scratch′ : List Float) → scratch′ ≡ zeros (length scratch)
+        → proposes (proposal chosen s n point gradient hessian step trial scratch) (record { session = s; outcome = Done }) step trial scratch′
+    proposes-done t scratch′ z = rw (on-checks, t) (record { says = refl; leaves-step = refl; leaves-trial = refl; leaves-scratch = z })
 
-      pub proposes-done : b ≡ true → (scratch′ : List Float) → scratch′ ≡ zeros (length scratch)
-          → Proposes (proposal chosen s n point gradient hessian step trial scratch) s step trial scratch (record { session = s; outcome = Done }) step trial scratch′
-      proposes-done t scratch′ z = rw (on-checks, t) (record { says = refl; leaves-step = refl; leaves-trial = refl; leaves-scratch = z })
+    module _ (t : b ≡ false) (found : Offered) (step′ trial′ scratch′ : List Float)
+        (offers : Offers n gradient hessian (offering (s .settings .choice) n (s .radius) point gradient hessian step trial scratch)
+        found step trial scratch step′ trial′ scratch′) (long : length step′ ≡ length step) where
+      sizes : all-sized n point gradient hessian step trial scratch ≡ true
+      sizes = is-true _ (not-not (all-sized n point gradient hessian step trial scratch) (passed-none checks (sym judges ∙ e) .0))
 
-      pub proposes-on : b ≡ false → (r : After) (step′ trial′ scratch′ : List Float) → Proposes (stepping chosen s n point gradient hessian) s step trial scratch r step′ trial′ scratch′
-          → Proposes (proposal chosen s n point gradient hessian step trial scratch) s step trial scratch r step′ trial′ scratch′
-      proposes-on t r step′ trial′ scratch′ h = rw (on-checks, t) h
+      -- the session's proposal follows what was offered
+      follows : proposal chosen s n point gradient hessian step trial scratch ≡ keeping (offering (s .settings .choice) n (s .radius) point gradient hessian step trial scratch)
+      follows =
+          let right : sound s ≡ true = is-true _ (not-not (sound s) (passed-none checks (sym judges ∙ e) .1 .0)) in
+          let kernel = kernel-known s right in
+          on-checks ∙ rw t (ap keeping (sym (offers-kernel (s .settings .choice) n (s .radius) point gradient hessian step trial scratch sizes kernel)))
 
-  pub steps-not : eq (s .radius) nought ≡ true → Proposes (stepping chosen s n point gradient hessian) s step trial scratch (refusing s Radius) step trial scratch
-  steps-not e = rw e (record { says = refl; leaves-step = refl; leaves-trial = refl; leaves-scratch = refl })
-
-  module _ (passed : judged checks ≡ Passed) (far : eq (s .radius) nought ≡ false) (found : Offered) (step′ trial′ scratch′ : List Float)
-      (offers : Offers n gradient hessian (offering (s .settings .choice) n (s .radius) point gradient hessian step trial scratch)
-      found step trial scratch step′ trial′ scratch′) where
-    abbrev answer : Answer Offer
-    answer = offering (s .settings .choice) n (s .radius) point gradient hessian step trial scratch
-
-    sizes : all-sized n point gradient hessian step trial scratch ≡ true
-    sizes = is-true _ (not-not (all-sized n point gradient hessian step trial scratch) (passed-none checks passed .0))
-
-    -- the session's proposal follows what was offered
-    follows : stepping chosen s n point gradient hessian ≡ then (λ (o : Offer). given (awaiting s n gradient hessian o)) answer
-    follows =
-        let right : sound s ≡ true = is-true _ (not-not (sound s) (passed-none checks passed .1 .0)) in
-        let kernel = kernel-known s right in
-        rw (far, offers-kernel (s .settings .choice) n (s .radius) point gradient hessian step trial scratch sizes kernel)
-
-    pub steps-none : (r : Refusal) → found ≡ offered.Refused r → Proposes (stepping chosen s n point gradient hessian) s step trial scratch (refusing s r) step′ trial′ scratch′
-    steps-none r f =
-        let e = found-none answer r offers f in
-        let o = rw e at offers in
-        rw (follows, e) (record { says = refl; leaves-step = o .leaves-step; leaves-trial = o .leaves-trial; leaves-scratch = o .leaves-scratch })
-
-    pub steps : (passes : ℕ) (slope curvature norm predicted : Float) → found ≡ offered.Step passes slope curvature norm → predicted ≡ neg slope ⊖ half ⊗ curvature → length step′ ≡ length step
-        → Proposes (stepping chosen s n point gradient hessian) s step trial scratch (record { session = in-phase (AwaitingCost predicted norm) s; outcome = Proposed passes }) step′ trial′ scratch′
-    unfolding awaiting predicted-fall
-    steps passes slope curvature norm predicted f m l =
-        let x = found-step answer passes slope curvature norm offers f in
-        let o = rw (x .1) at offers in
-        let lent = lent-true n (length point) (length gradient) (length hessian) (length step) (length trial) (length scratch) sizes in
-        let turned = dot-commutes (x .0 .step) gradient (ap length (sym (o .leaves-step)) ∙ l ∙ lent .step ∙ sym (lent .gradient)) in
-        rw (follows, x .1) (record {
-          says = (let told = sym f ∙ o .says in cc);
-          leaves-step = o .leaves-step;
-          leaves-trial = o .leaves-trial;
-          leaves-scratch = o .leaves-scratch;
-        })
+      pub proposes-offer : (after : After) → after ≡ after-offer s found → proposes (proposal chosen s n point gradient hessian step trial scratch) after step′ trial′ scratch′
+      unfolding awaiting predicted-fall
+      proposes-offer after is = rw follows (go (offering (s .settings .choice) n (s .radius) point gradient hessian step trial scratch) offers)
+        where
+          go : (a : Answer Offer) → Offers n gradient hessian a found step trial scratch step′ trial′ scratch′ → proposes (keeping a) after step′ trial′ scratch′
+          go (refused r) o = record { says = is ∙ ap (after-offer s) (o .says); leaves-step = o .leaves-step; leaves-trial = o .leaves-trial; leaves-scratch = o .leaves-scratch }
+          go (given x) o =
+              let lent = lent-true n (length point) (length gradient) (length hessian) (length step) (length trial) (length scratch) sizes in
+              let turned = dot-commutes (x .step) gradient (ap length (sym (o .leaves-step)) ∙ long ∙ lent .step ∙ sym (lent .gradient)) in
+              record { says = is ∙ ap (after-offer s) (o .says) ∙ rw turned; leaves-step = o .leaves-step; leaves-trial = o .leaves-trial; leaves-scratch = o .leaves-scratch }
 
 -- ---- the answer with a cost and a gradient
 
@@ -145,7 +128,7 @@ module _ (s : Session) (n : ℕ) (F : Float) (new-gradient point step trial grad
   answer-checked = judgement-checks s n new-gradient point step trial gradient hessian scratch
 
   abbrev entries : List Bool
-  entries = all-finite step ∷ all-finite trial ∷ all-finite gradient ∷ all-finite hessian ∷ all-finite new-gradient ∷ (finite F || isNan F) ∷ []
+  entries = all-finite step ∷ all-finite trial ∷ all-finite gradient ∷ all-finite hessian ∷ all-finite new-gradient ∷ cost-taken F ∷ []
 
   abbrev answered : Bool
   answered = all-hold entries
@@ -179,9 +162,9 @@ module _ (s : Session) (n : ℕ) (F : Float) (new-gradient point step trial grad
     abbrev judges-by : After → (point′ gradient′ hessian′ scratch′ : List Float) → Type 0
     judges-by = Judges (judge s n F new-gradient point step trial gradient hessian p) s point gradient hessian scratch
 
-    pub judge-unanswered : answered ≡ false → judges-by (refusing s Entry) point gradient hessian scratch
+    pub judge-unanswered : answered ≡ false → (after : After) → after ≡ refusing s Entry → judges-by after point gradient hessian scratch
     unfolding judge
-    judge-unanswered a = rw a (record { says = refl; leaves-point = refl; leaves-gradient = refl; leaves-hessian = refl; leaves-scratch = refl })
+    judge-unanswered a after is = rw a (record { says = is; leaves-point = refl; leaves-gradient = refl; leaves-hessian = refl; leaves-scratch = refl })
 
     abbrev ratio : Float
     ratio = fall-ratio (s .cost) F (p .predicted)
@@ -195,15 +178,15 @@ module _ (s : Session) (n : ℕ) (F : Float) (new-gradient point step trial grad
       unfolding judge
       on-answer = rw (a, is-next, is-ratio)
 
-      pub judge-far : finite next ≡ false → (scratch′ : List Float) → scratch′ ≡ zeros (length scratch) → judges-by (refusing s Range) point gradient hessian scratch′
-      judge-far b scratch′ z = rw (on-answer, b) (record { says = refl; leaves-point = refl; leaves-gradient = refl; leaves-hessian = refl; leaves-scratch = z })
+      pub judge-far : finite next ≡ false → (scratch′ : List Float) → scratch′ ≡ zeros (length scratch) → (after : After) → after ≡ refusing s Range → judges-by after point gradient hessian scratch′
+      judge-far b scratch′ z after is = rw (on-answer, b) (record { says = is; leaves-point = refl; leaves-gradient = refl; leaves-hessian = refl; leaves-scratch = z })
 
       -- and its new Hessian
       module _ (b : finite next ≡ true) (r : Bool) (hessian′ scratch′ : List Float) (u : Updates next-hessian r hessian hessian′) (z : scratch′ ≡ zeros (length scratch)) where
-        pub judge-not-finite : r ≡ false → judges-by (refusing s Range) point gradient hessian′ scratch′
-        judge-not-finite e =
+        pub judge-not-finite : r ≡ false → (after : After) → after ≡ refusing s Range → judges-by after point gradient hessian′ scratch′
+        judge-not-finite e after is =
             let bad : all-finite next-hessian ≡ false = sym (u .says) ∙ e in
-            rw (on-answer, b, bad) (record { says = refl; leaves-point = refl; leaves-gradient = refl; leaves-hessian = u .leaves ∙ rw bad; leaves-scratch = z })
+            rw (on-answer, b, bad) (record { says = is; leaves-point = refl; leaves-gradient = refl; leaves-hessian = u .leaves ∙ rw bad; leaves-scratch = z })
 
         module _ (e : r ≡ true) where
           good : all-finite next-hessian ≡ true
@@ -213,33 +196,33 @@ module _ (s : Session) (n : ℕ) (F : Float) (new-gradient point step trial grad
           settles = on-answer ∙ rw (b, good)
 
           pub judge-accepts : lt (s .settings .eta) x ≡ true → (passed : judged answer-checked ≡ Passed) (point′ gradient′ : List Float) → point′ ≡ replaced trial point → gradient′ ≡ replaced new-gradient gradient
-              → judges-by (record { session = record { settings = s .settings; radius = next; cost = F; phase = Ready }; outcome = Accepted x }) point′ gradient′ hessian′ scratch′
+              → (after : Session) → after ≡ moved s next F Ready → judges-by (record { session = after; outcome = Accepted x }) point′ gradient′ hessian′ scratch′
           unfolding settled
-          judge-accepts t passed point′ gradient′ c d =
-              rw (settles, t)
+          judge-accepts t passed point′ gradient′ c d after is =
+              rw (is, settles, t)
               (record { says = refl; leaves-point = c ∙ takes-trial passed; leaves-gradient = d ∙ takes-gradient passed; leaves-hessian = u .leaves ∙ rw good; leaves-scratch = z })
 
           pub judge-rejects : lt (s .settings .eta) x ≡ false
-              → judges-by (record { session = record { settings = s .settings; radius = next; cost = s .cost; phase = Ready }; outcome = Rejected x }) point gradient hessian′ scratch′
+              → (after : Session) → after ≡ moved s next (s .cost) Ready → judges-by (record { session = after; outcome = Rejected x }) point gradient hessian′ scratch′
           unfolding settled
-          judge-rejects t = rw (settles, t) (record { says = refl; leaves-point = refl; leaves-gradient = refl; leaves-hessian = u .leaves ∙ rw good; leaves-scratch = z })
+          judge-rejects t after is = rw (is, settles, t) (record { says = refl; leaves-point = refl; leaves-gradient = refl; leaves-hessian = u .leaves ∙ rw good; leaves-scratch = z })
 
   module _ (v : Verdict) (judges : v ≡ judged answer-checked) where
-    pub judges-not : (r : Refusal) → v ≡ Failed r
-        → Judges (judgement s n F new-gradient point step trial gradient hessian scratch) s point gradient hessian scratch (refusing s r) point gradient hessian scratch
+    pub judges-not : (r : Refusal) → v ≡ Failed r → (after : After) → after ≡ refusing s r
+        → Judges (judgement s n F new-gradient point step trial gradient hessian scratch) s point gradient hessian scratch after point gradient hessian scratch
     unfolding judgement
-    judges-not r e =
+    judges-not r e after is =
         rw (unless-failed answer-checked (then (judge s n F new-gradient point step trial gradient hessian) (promised (s .phase))) r (sym judges ∙ e))
-        (record { says = refl; leaves-point = refl; leaves-gradient = refl; leaves-hessian = refl; leaves-scratch = rw (early answer-checked r (refl, (refl, tt)) (sym judges ∙ e)) })
+        (record { says = is; leaves-point = refl; leaves-gradient = refl; leaves-hessian = refl; leaves-scratch = rw (early answer-checked r (refl, (refl, tt)) (sym judges ∙ e)) })
 
     module _ (e : v ≡ Passed) where
       on-promise : judgement s n F new-gradient point step trial gradient hessian scratch ≡ then (judge s n F new-gradient point step trial gradient hessian) (promised (s .phase))
       unfolding judgement
       on-promise = unless-passed answer-checked _ (sym judges ∙ e)
 
-      pub judges-out-of-turn : promised (s .phase) ≡ refused Turn
-          → Judges (judgement s n F new-gradient point step trial gradient hessian scratch) s point gradient hessian scratch (refusing s Turn) point gradient hessian scratch
-      judges-out-of-turn t = rw (on-promise, t) (record { says = refl; leaves-point = refl; leaves-gradient = refl; leaves-hessian = refl; leaves-scratch = refl })
+      pub judges-out-of-turn : promised (s .phase) ≡ refused Turn → (after : After) → after ≡ refusing s Turn
+          → Judges (judgement s n F new-gradient point step trial gradient hessian scratch) s point gradient hessian scratch after point gradient hessian scratch
+      judges-out-of-turn t after is = rw (on-promise, t) (record { says = is; leaves-point = refl; leaves-gradient = refl; leaves-hessian = refl; leaves-scratch = refl })
 
       pub judges-in-turn : (p : Promise) (r : After) (point′ gradient′ hessian′ scratch′ : List Float) → promised (s .phase) ≡ given p
           → Judges (judge s n F new-gradient point step trial gradient hessian p) s point gradient hessian scratch r point′ gradient′ hessian′ scratch′

@@ -3,25 +3,40 @@
 use mathlib.Core.Path.{_≡_}
 use mathlib.Core.Bool.{Bool, cond}
 use mathlib.Core.List.{List}
-use lib.Ieee.{Float}
+use lib.Ieee.{Float, neg}
+use Rattle.float.specs.Numbers.{_⊖_, _⊗_}
+use Rattle.float.specs.Constants.{half}
 use Rattle.vectors.specs.Vector.{all-finite}
 use Rattle.vectors.specs.Refusal.{Answer, refused, given, left-in, scratch-after}
-use Rattle.sr1.specs.Session.{Proposal, Judgement}
+use Rattle.vectors.specs.declared.refusal.Refusal.{Refusal}
+use Rattle.offer.specs.declared.Offered.{Offered}
+use Rattle.offer.specs.declared.Offered.the-variants as offered
+use Rattle.sr1.specs.Session.{in-phase, Proposal, Judgement}
 use Rattle.sr1.specs.declared.session.Session.{Session}
+use Rattle.sr1.specs.declared.session.Phase.the-variants.{AwaitingCost}
 use Rattle.sr1.specs.declared.session.Start.{Start}
 use Rattle.sr1.specs.declared.session.Start.the-variants as start
 use Rattle.sr1.specs.declared.session.Outcome.{Outcome}
-use Rattle.sr1.specs.declared.session.Outcome.the-variants.{Refused, Accepted, Rejected}
+use Rattle.sr1.specs.declared.session.Outcome.the-variants.{Refused, Proposed, Accepted, Rejected}
 use Rattle.sr1.specs.declared.session.After.{After}
 
 abbrev pub begun : Answer Session → Start
 begun (refused r) = start.Refused r
 begun (given s) = start.Started s
 
+-- what every refused call returns
+abbrev pub refusing : Session → Refusal → After
+refusing s r = record { session = s; outcome = Refused r }
+
 -- the session and the outcome after an answer, for a session s
 abbrev pub told : {A : Type 0} → (A → Session) → (A → Outcome) → Answer A → Session → After
-told session outcome (refused r) s = record { session = s; outcome = Refused r }
+told session outcome (refused r) s = refusing s r
 told session outcome (given a) s = record { session = session a; outcome = outcome a }
+
+-- what a proposal returns of the offer that it found: "P .. kept in place of m", where slope is s·g and curvature s·H·s
+abbrev pub after-offer : Session → Offered → After
+after-offer s (offered.Refused r) = refusing s r
+after-offer s (offered.Step passes slope curvature norm) = record { session = in-phase (AwaitingCost (neg slope ⊖ half ⊗ curvature) norm) s; outcome = Proposed passes }
 
 abbrev pub after-proposal : Answer Proposal → Session → After
 after-proposal = told (λ p. p .session) (λ p. p .outcome)

@@ -1,17 +1,17 @@
 -- The `SR1TrustRegion` session of document 01, on values: what each of its calls answers, for every input, refused ones too. Definitions only.
 -- A call is a function of the session, of n, and of the lent vectors as they are at entry. Its answer is a refusal, or all that the call changes.
-use mathlib.Core.Bool.{Bool, true, false, not, _&&_, _||_, cond}
+use mathlib.Core.Bool.{Bool, true, false, not, _&&_, cond}
 use mathlib.Core.List.{List, [], _∷_}
 use Prim.Native.Nat.{ℕ}
-use lib.Ieee.{Float, lt, le, eq, neg, isNan}
+use lib.Ieee.{Float, lt, le, neg}
 use Rattle.float.specs.Numbers.{_⊕_, _⊖_, _⊗_, _⊘_, finite, magnitude}
-use Rattle.float.specs.Constants.{nought, one, two, half, three-quarters, tenth, four-fifths}
+use Rattle.float.specs.Constants.{one, two, half, three-quarters, tenth, four-fifths}
 use Rattle.vectors.specs.Vector.{at, tab, flat, dot, norm, row, times, weighted, minus, all-finite}
 use Rattle.vectors.specs.Refusal.{Answer, refused, given, Check, _if_, unless, then, all-hold, size, sized}
 use Rattle.kernels.specs.Kernel.{Kernel}
-use Rattle.vectors.specs.declared.refusal.Refusal.the-variants.{Size, Setting, Turn, Entry, Radius, Range}
+use Rattle.vectors.specs.declared.refusal.Refusal.the-variants.{Size, Setting, Turn, Entry, Range}
 use Rattle.sr1.specs.Settings.{in-range}
-use Rattle.offer.specs.Offer.{all-sized, steady, Offer, offer}
+use Rattle.offer.specs.Offer.{all-sized, steady, cost-taken, Offer, offer, stepping}
 use Rattle.sr1.specs.declared.settings.Settings.{Settings}
 use Rattle.sr1.specs.declared.session.Session.{Session}
 use Rattle.sr1.specs.declared.session.Phase.{Phase}
@@ -30,8 +30,13 @@ abbrev pub is-ready : Phase → Bool
 is-ready Ready = true
 is-ready (AwaitingCost predicted norm) = false
 
+-- a session with another radius and cost, in another phase
+abbrev pub moved : Session → (radius cost : Float) → Phase → Session
+moved s radius cost phase = record { settings = s .settings; radius = radius; cost = cost; phase = phase }
+
+-- only in another phase
 abbrev pub in-phase : Phase → Session → Session
-in-phase phase s = record { settings = s .settings; radius = s .radius; cost = s .cost; phase = phase }
+in-phase phase s = moved s (s .radius) (s .cost) phase
 
 pub record Promise : Type 0 where
   pub predicted : Float
@@ -97,22 +102,13 @@ proposal-checks s n point gradient hessian step trial scratch =
     ∷ (Entry if not (all-finite point && all-finite gradient && all-finite hessian))
     ∷ []
 
-abbrev pub radius-checks : Session → List Check
-radius-checks s = (Radius if eq (s .radius) nought) ∷ []
-
--- "propose runs the kernel, writes step and trial = step + point"
-abbrev pub stepping : (Settings → Kernel) → Session → ℕ → (point gradient hessian : List Float) → Answer Proposal
-stepping kernel s n point gradient hessian =
-    unless (radius-checks s)
-    (then (λ (o : Offer). given (awaiting s n gradient hessian o))
-    (then (offer n point) (kernel (s .settings) n (s .radius) gradient hessian)))
-
--- done is "tested when a proposal is asked for, after refusals 1 to 4 and before 5"
+-- done is "tested when a proposal is asked for, after refusals 1 to 4 and before 5"; refusals 5 to 8 are `stepping`'s
 unfoldable pub proposal : (Settings → Kernel) → Session → ℕ → (point gradient hessian step trial scratch : List Float) → Answer Proposal
 unfolding size sound all-finite converged offer awaiting
 proposal kernel s n point gradient hessian step trial scratch =
     unless (proposal-checks s n point gradient hessian step trial scratch)
-    (cond (converged s gradient) (given (done s step trial)) (stepping kernel s n point gradient hessian))
+    (cond (converged s gradient) (given (done s step trial))
+    (then (λ (o : Offer). given (awaiting s n gradient hessian o)) (stepping (kernel (s .settings)) n (s .radius) point gradient hessian)))
 
 -- ---- the answer with a cost F and a gradient G
 
@@ -172,7 +168,7 @@ unfoldable pub settled : Session → (F ratio radius : Float) → (new-gradient 
 settled s F ratio radius new-gradient point trial gradient hessian =
     let accepts = lt (s .settings .eta) ratio in
     record {
-      session = record { settings = s .settings; radius = radius; cost = cond accepts F (s .cost); phase = Ready };
+      session = moved s radius (cond accepts F (s .cost)) Ready;
       point = cond accepts trial point;
       gradient = cond accepts new-gradient gradient;
       hessian = hessian;
@@ -183,7 +179,7 @@ settled s F ratio radius new-gradient point trial gradient hessian =
 -- "for SR1's answer step, trial, g, H, G"; "trial cost infinite (NaN is taken)"
 abbrev pub answer-checks : (F : Float) → (new-gradient step trial gradient hessian : List Float) → List Check
 answer-checks F new-gradient step trial gradient hessian =
-    (Entry if not (all-hold (all-finite step ∷ all-finite trial ∷ all-finite gradient ∷ all-finite hessian ∷ all-finite new-gradient ∷ (finite F || isNan F) ∷ [])))
+    (Entry if not (all-hold (all-finite step ∷ all-finite trial ∷ all-finite gradient ∷ all-finite hessian ∷ all-finite new-gradient ∷ cost-taken F ∷ [])))
     ∷ []
 
 -- "the next radius or the updated Hessian has a number that is not finite"
@@ -196,7 +192,7 @@ verdict s F ratio radius new-gradient point trial gradient hessian =
     unless (verdict-checks radius hessian) (given (settled s F ratio radius new-gradient point trial gradient hessian))
 
 unfoldable pub judge : Session → ℕ → (F : Float) → (new-gradient point step trial gradient hessian : List Float) → Promise → Answer Judgement
-unfolding next-radius updated settled all-finite finite isNan
+unfolding next-radius updated settled all-finite finite cost-taken
 judge s n F new-gradient point step trial gradient hessian p =
     unless (answer-checks F new-gradient step trial gradient hessian)
     (verdict s F (fall-ratio (s .cost) F (p .predicted)) (next-radius (fall-ratio (s .cost) F (p .predicted)) (p .norm) (s .radius))

@@ -6,6 +6,7 @@ use vectors::refusal;
 use vectors::refusal::Refusal;
 ghost use mathlib.Core.Path.{_≡_};
 ghost use Rattle.sr1.specs.Session as Definition;
+ghost use Rattle.sr1.specs.Calls as Calls;
 
 // Awaiting a cost, a session holds the predicted fall P and the step norm that it was promised on.
 pub enum Phase {
@@ -38,6 +39,48 @@ pub enum Outcome {
 pub struct After {
     pub session: Session,
     pub outcome: Outcome,
+}
+
+// With another radius and cost, in another phase. No other function makes a session from a session.
+pub fn moved(s: Session, radius: f64, cost: f64, phase: Phase) -> Session
+    ensures { λ r. ⌜ r ≡ Definition.moved s radius cost phase ⌝ }
+{
+    let settings = s.settings;
+    Session {
+        settings: settings,
+        radius: radius,
+        cost: cost,
+        phase: phase,
+    }
+}
+
+// Only in another phase.
+pub(crate) fn in_phase(s: Session, phase: Phase) -> Session
+    ensures { λ r. ⌜ r ≡ Definition.in-phase phase s ⌝ }
+{
+    moved(s, s.radius, s.cost, phase)
+}
+
+// What every refused call returns: the session keeps its bits.
+pub(crate) fn refusing(s: Session, refusal: Refusal) -> After
+    ensures { λ r. ⌜ r ≡ Calls.refusing s refusal ⌝ }
+{
+    After {
+        session: s,
+        outcome: Outcome::Refused(refusal),
+    }
+}
+
+// A session that begins: ready, with its radius and the start's cost.
+pub fn begin(settings: Settings, radius: f64, cost: f64) -> Session
+    ensures { λ r. ⌜ r ≡ Definition.begin settings radius cost ⌝ }
+{
+    Session {
+        settings,
+        radius,
+        cost,
+        phase: Phase::Ready,
+    }
 }
 
 // What refusal 2 asks of a session at every call.

@@ -16,52 +16,41 @@ use vectors::refusal::Refusal;
 use vectors::refusal::Verdict;
 use vectors::vector;
 ghost use mathlib.Core.Path.{_≡_};
-ghost use mathlib.Core.Bool.{true, _||_};
+ghost use mathlib.Core.Bool.{true};
 ghost use mathlib.Core.List.{[], _∷_};
 ghost use Prim.Native.Nat.{_+_, _*_, _≤_, _<_};
 ghost use lib.ListN.{length};
-ghost use lib.Ieee.{neg, isNan};
-ghost use Rattle.float.specs.Numbers.{_⊕_, _⊖_, _⊗_, finite};
+ghost use lib.Ieee.{neg};
+ghost use Rattle.float.specs.Numbers.{_⊕_, _⊖_, _⊗_};
 ghost use Rattle.float.specs.Constants.{half};
 ghost use Rattle.vectors.specs.Vector.{zeros, all-finite};
 ghost use Rattle.vectors.specs.Slots.{Puts};
 ghost use Rattle.vectors.specs.Refusal.{judged, all-hold, Square};
 ghost use Rattle.vectors.specs.declared.refusal.Verdict.the-variants.{Passed};
+ghost use Rattle.offer.specs.Offer.{cost-taken};
 ghost use Rattle.sr1.specs.Settings.{chosen};
 ghost use Rattle.sr1.specs.Session as Definition;
-ghost use Rattle.sr1.specs.Session.{proposal-checks, proposal, residual, gained-row, gained, updated-by, updated, next-radius, judgement-checks, judgement};
-ghost use Rattle.sr1.specs.Calls.{begun, Proposes, Updates, Judges};
+ghost use Rattle.sr1.specs.Session.{proposal, residual, gained-row, gained, updated-by, updated, next-radius, judgement-checks, judgement};
+ghost use Rattle.sr1.specs.Calls.{begun, after-offer, Proposes, Updates, Judges};
 
 // ---- start
 
 pub fn start(settings: Settings, cost: f64) -> Start
     ensures { λ r. ⌜ r ≡ begun (Definition.start settings cost) ⌝ }
 {
-    let radius = settings.radius;
     let ranged = settings::in_range(settings);
     let finite = float::finite(cost);
-    let checks = range::verdict(true, ranged, true, finite, false);
+    let checks = range::verdict(true, ranged, true, finite);
     match checks {
         Verdict::Failed(r) => Start::Refused(r),
-        Verdict::Passed => Start::Started(Session {
-            settings: settings,
-            radius: float::magnitude(radius),
-            cost: cost,
-            phase: Phase::Ready,
-        }),
+        Verdict::Passed => {
+            let radius = float::magnitude(settings.radius);
+            Start::Started(session::begin(settings, radius, cost))
+        }
     }
 }
 
 // ---- propose
-
-// Whether the gradient is below the tolerance.
-fn converged(s: Session, gradient: &[f64]) -> bool
-    ensures { λ r. ⌜ r ≡ Definition.converged s (now (gradient .entry)) ⌝ }
-{
-    let settings = s.settings;
-    let tol_grad = settings.tol_grad;
-    vector::norm_any(gradient) < tol_grad
-}
 
 // The fall that the model promises: (−(g·s)) − 0.5·(s·H·s).
 fn predicted_fall(slope: f64, curvature: f64) -> f64
@@ -70,47 +59,12 @@ fn predicted_fall(slope: f64, curvature: f64) -> f64
     float::one_nan(-slope - 0.5 * curvature)
 }
 
-// A step and the trial point; what it was promised on is kept until its cost comes.
-fn stepped(
-    s: Session,
-    n: usize,
-    point: &[f64],
-    gradient: &[f64],
-    hessian: &[f64],
-    step: &mut [f64],
-    trial: &mut [f64],
-    scratch: &mut [f64],
-) -> After
-    requires { ⌜ judged (proposal-checks s n (now point) (now gradient) (now hessian) (now step) (now trial) (now scratch)) ≡ Passed ⌝ }
-    ensures { λ r. ⌜ Proposes (Definition.stepping chosen s n (now (point .entry)) (now (gradient .entry)) (now (hessian .entry)))
-        s (now (step .entry)) (now (trial .entry)) (now (scratch .entry)) r (now (step .exit)) (now (trial .exit)) (now (scratch .exit)) ⌝ }
+// A step is promised on its predicted fall and its norm, which are kept until its cost comes.
+fn awaiting(s: Session, offered: Offered) -> After
+    ensures { λ r. ⌜ r ≡ after-offer s offered ⌝ }
 {
-    let settings = s.settings;
-    let radius = s.radius;
-    let cost = s.cost;
-    let choice = settings.choice;
-    if radius == 0.0 {
-        return After {
-            session: s,
-            outcome: Outcome::Refused(Refusal::Radius),
-        };
-    }
-    let offered = offer::make_unchecked(
-        choice,
-        n,
-        radius,
-        point,
-        gradient,
-        hessian,
-        step,
-        trial,
-        scratch,
-    );
     match offered {
-        Offered::Refused(r) => After {
-            session: s,
-            outcome: Outcome::Refused(r),
-        },
+        Offered::Refused(r) => session::refusing(s, r),
         Offered::Step {
             passes,
             slope,
@@ -119,18 +73,21 @@ fn stepped(
         } => {
             let predicted = predicted_fall(slope, curvature);
             After {
-                session: Session {
-                    settings: settings,
-                    radius: radius,
-                    cost: cost,
-                    phase: Phase::AwaitingCost(predicted, norm),
-                },
+                session: session::in_phase(s, Phase::AwaitingCost(predicted, norm)),
                 outcome: Outcome::Proposed(passes),
             }
         }
     }
 }
 
+// Whether the gradient is below the tolerance.
+fn converged(s: Session, gradient: &[f64]) -> bool
+    ensures { λ r. ⌜ r ≡ Definition.converged s (now (gradient .entry)) ⌝ }
+{
+    vector::norm_any(gradient) < s.settings.tol_grad
+}
+
+// A step and the trial point, unless the session is done.
 pub fn proposed(
     s: Session,
     n: usize,
@@ -144,15 +101,14 @@ pub fn proposed(
     ensures { λ r. ⌜ Proposes (proposal chosen s n (now (point .entry)) (now (gradient .entry)) (now (hessian .entry)) (now (step .entry)) (now (trial .entry)) (now (scratch .entry)))
         s (now (step .entry)) (now (trial .entry)) (now (scratch .entry)) r (now (step .exit)) (now (trial .exit)) (now (scratch .exit)) ⌝ }
 {
+    let choice = s.settings.choice;
     let phase = s.phase;
     let sound = session::sound(s);
     let ready = session::is_ready(phase);
-    // refusals 1 to 4: refusal 5 comes after the test whether the session is done
     let checks = range::proposal(
         n,
         sound,
         ready,
-        false,
         point,
         gradient,
         hessian,
@@ -161,10 +117,7 @@ pub fn proposed(
         scratch,
     );
     match checks {
-        Verdict::Failed(r) => After {
-            session: s,
-            outcome: Outcome::Refused(r),
-        },
+        Verdict::Failed(r) => session::refusing(s, r),
         Verdict::Passed => {
             if converged(s, gradient) {
                 vector::clear(scratch);
@@ -173,7 +126,18 @@ pub fn proposed(
                     outcome: Outcome::Done,
                 };
             }
-            stepped(s, n, point, gradient, hessian, step, trial, scratch)
+            let offered = offer::make_unchecked(
+                choice,
+                n,
+                s.radius,
+                point,
+                gradient,
+                hessian,
+                step,
+                trial,
+                scratch,
+            );
+            awaiting(s, offered)
         }
     }
 }
@@ -204,17 +168,7 @@ fn judgement_checked(
     );
     let sized = refusal::all_hold(&[lengths, new_gradient.len() == n]);
     let sound = session::sound(s);
-    range::verdict(sized, sound, true, true, false)
-}
-
-// A hidden marker's cost is a NaN: that is an answer, an infinity is none.
-fn cost_taken(cost: f64) -> bool
-    ensures { λ r. ⌜ r ≡ (finite cost || isNan cost) ⌝ }
-{
-    if float::finite(cost) {
-        return true;
-    }
-    float::is_nan(cost)
+    range::verdict(sized, sound, true, true)
 }
 
 // What refusal 4 asks of an answer.
@@ -226,7 +180,7 @@ fn answered(
     gradient: &[f64],
     hessian: &[f64],
 ) -> bool
-    ensures { λ r. ⌜ r ≡ all-hold (all-finite (now (step .entry)) ∷ all-finite (now (trial .entry)) ∷ all-finite (now (gradient .entry)) ∷ all-finite (now (hessian .entry)) ∷ all-finite (now («new_gradient» .entry)) ∷ (finite cost || isNan cost) ∷ []) ⌝ }
+    ensures { λ r. ⌜ r ≡ all-hold (all-finite (now (step .entry)) ∷ all-finite (now (trial .entry)) ∷ all-finite (now (gradient .entry)) ∷ all-finite (now (hessian .entry)) ∷ all-finite (now («new_gradient» .entry)) ∷ cost-taken cost ∷ []) ⌝ }
 {
     refusal::all_hold(
         &[
@@ -235,7 +189,7 @@ fn answered(
             vector::all_finite(gradient),
             vector::all_finite(hessian),
             vector::all_finite(new_gradient),
-            cost_taken(cost),
+            range::cost_taken(cost),
         ],
     )
 }
@@ -415,29 +369,18 @@ fn judge(
     ensures { λ r. ⌜ Judges (Definition.judge s n answer (now («new_gradient» .entry)) (now (point .entry)) (now (step .entry)) (now (trial .entry)) (now (gradient .entry)) (now (hessian .entry)) (record { predicted = predicted; norm = norm }))
         s (now (point .entry)) (now (gradient .entry)) (now (hessian .entry)) (now (scratch .entry)) r (now (point .exit)) (now (gradient .exit)) (now (hessian .exit)) (now (scratch .exit)) ⌝ }
 {
-    let settings = s.settings;
-    let radius = s.radius;
-    let before = s.cost;
-    let eta = settings.eta;
-    let factor = settings.factor;
     if !answered(answer, new_gradient, step, trial, gradient, hessian) {
-        return After {
-            session: s,
-            outcome: Outcome::Refused(Refusal::Entry),
-        };
+        return session::refusing(s, Refusal::Entry);
     }
-    let ratio = fall_ratio(before, answer, predicted);
-    let next = next_radius(ratio, norm, radius);
+    let ratio = fall_ratio(s.cost, answer, predicted);
+    let next = next_radius(ratio, norm, s.radius);
     if !float::finite(next) {
         vector::clear(scratch);
-        return After {
-            session: s,
-            outcome: Outcome::Refused(Refusal::Range),
-        };
+        return session::refusing(s, Refusal::Range);
     }
     if !renew(
         n,
-        factor,
+        s.settings.factor,
         norm,
         new_gradient,
         step,
@@ -445,31 +388,18 @@ fn judge(
         hessian,
         scratch,
     ) {
-        return After {
-            session: s,
-            outcome: Outcome::Refused(Refusal::Range),
-        };
+        return session::refusing(s, Refusal::Range);
     }
-    if eta < ratio {
+    if s.settings.eta < ratio {
         lent::copy(trial, point);
         lent::copy(new_gradient, gradient);
         return After {
-            session: Session {
-                settings: settings,
-                radius: next,
-                cost: answer,
-                phase: Phase::Ready,
-            },
+            session: session::moved(s, next, answer, Phase::Ready),
             outcome: Outcome::Accepted(ratio),
         };
     }
     After {
-        session: Session {
-            settings: settings,
-            radius: next,
-            cost: before,
-            phase: Phase::Ready,
-        },
+        session: session::moved(s, next, s.cost, Phase::Ready),
         outcome: Outcome::Rejected(ratio),
     }
 }
@@ -502,10 +432,7 @@ pub fn judged(
         scratch,
     );
     match checks {
-        Verdict::Failed(r) => After {
-            session: s,
-            outcome: Outcome::Refused(r),
-        },
+        Verdict::Failed(r) => session::refusing(s, r),
         Verdict::Passed => match phase {
             Phase::AwaitingCost(predicted, norm) => judge(
                 s,
@@ -521,10 +448,7 @@ pub fn judged(
                 hessian,
                 scratch,
             ),
-            Phase::Ready => After {
-                session: s,
-                outcome: Outcome::Refused(Refusal::Turn),
-            },
+            Phase::Ready => session::refusing(s, Refusal::Turn),
         },
     }
 }

@@ -8,8 +8,8 @@ use lib.Ieee.{Float}
 use Rattle.vectors.specs.Refusal.{Answer, refused, given, then}
 use Rattle.kernels.specs.Kernel.{Kernel, Made}
 use Rattle.vectors.specs.declared.refusal.Refusal.{Refusal}
-use Rattle.offer.specs.Offer.{all-sized, Offer, offered, offer-checks, offer}
-use Rattle.trustregion.specs.Session.{sound, is-ready, Promise, promised, Proposal, awaiting, proposal-checks, proposal, Judgement, rho, radius-by, settled, verdict-checks, judge, judgement-checks, judgement, Renewal, renewal-checks, renewed-by, renewal}
+use Rattle.offer.specs.Offer.{all-sized, Offer, offered, offer-checks, offer, step-checks, stepping}
+use Rattle.trustregion.specs.Session.{sound, is-ready, Promise, promised, Proposal, awaiting, proposal-checks, proposal, Judgement, rho, radius-by, settled, answer-checks, verdict-checks, judge, judgement-checks, judgement, Renewal, renewal-checks, renewed-by, renewal}
 use Rattle.trustregion.specs.Run.{Station, Request, propose, cost, derivatives, refusal, Done, on-proposal, on-judgement, on-renewal, respond}
 use Rattle.trustregion.specs.declared.settings.Settings.{Settings}
 use Rattle.trustregion.specs.declared.session.Session.{Session}
@@ -29,10 +29,11 @@ module _ (kernel : Settings → Kernel) (s : Session) (n : ℕ) (point gradient 
       → P (proposal kernel s n point gradient hessian step trial scratch)
   unfolding proposal offer follows
   proposal-elim bad good =
-      unless-elim P (proposal-checks s n point gradient hessian step trial scratch) (follows (then (offer n point) (kernel (s .settings) n (s .radius) gradient hessian))) bad (λ w.
+      unless-elim P (proposal-checks s n point gradient hessian step trial scratch) (follows (stepping (kernel (s .settings)) n (s .radius) point gradient hessian)) bad (λ w.
+      unless-elim (λ (x : Answer Offer). P (follows x)) (step-checks (s .radius)) (then (offer n point) (kernel (s .settings) n (s .radius) gradient hessian)) bad (λ far.
       then-elim (λ (x : Answer Offer). P (follows x)) (offer n point) (kernel (s .settings) n (s .radius) gradient hessian) bad (λ m e.
       unless-elim (λ (x : Answer Offer). P (follows x)) (offer-checks (offered n point m)) (given (offered n point m)) bad (λ v.
-      good m (not-not (all-sized n point gradient hessian step trial scratch) (w .0)) (not-not (is-ready (s .phase)) (w .1 .1 .0)) e)))
+      good m (not-not (all-sized n point gradient hessian step trial scratch) (w .0)) (not-not (is-ready (s .phase)) (w .1 .1 .0)) e))))
 
 module _ (s : Session) (n : ℕ) (F : Float) (point trial : List Float) (P : Answer Judgement → Type 0) where
   pub judgement-elim : Refusals P
@@ -43,8 +44,9 @@ module _ (s : Session) (n : ℕ) (F : Float) (point trial : List Float) (P : Ans
   judgement-elim bad good =
       unless-elim P (judgement-checks s n point trial) (then (judge s F point trial) (promised (s .phase))) bad (λ w.
       then-elim P (judge s F point trial) (promised (s .phase)) bad (λ p e.
-      unless-elim P (verdict-checks F (radius-by s (rho (s .cost) F (p .model)) (p .norm)) trial) _ bad (λ v.
-      good p e (not-not (sound s) (w .1 .0)))))
+      unless-elim P (answer-checks F trial) _ bad (λ u.
+      unless-elim P (verdict-checks (radius-by s (rho (s .cost) F (p .model)) (p .norm))) _ bad (λ v.
+      good p e (not-not (sound s) (w .1 .0))))))
 
 module _ (s : Session) (n : ℕ) (new-gradient new-hessian gradient hessian : List Float) (P : Answer Renewal → Type 0) where
   pub renewal-elim : Refusals P → P (given (renewed-by s new-gradient new-hessian)) → P (renewal s n new-gradient new-hessian gradient hessian)

@@ -4,9 +4,15 @@ use mathlib.Core.Path.{_≡_}
 use mathlib.Core.Bool.{Bool, cond}
 use mathlib.Core.List.{List}
 use lib.Ieee.{Float}
+use Rattle.float.specs.Numbers.{_⊕_, _⊗_}
+use Rattle.float.specs.Constants.{half}
 use Rattle.vectors.specs.Refusal.{Answer, refused, given, left-in, scratch-after}
-use Rattle.trustregion.specs.Session.{Proposal, Judgement, Renewal}
+use Rattle.vectors.specs.declared.refusal.Refusal.{Refusal}
+use Rattle.offer.specs.declared.Offered.{Offered}
+use Rattle.offer.specs.declared.Offered.the-variants as offered
+use Rattle.trustregion.specs.Session.{in-phase, Proposal, Judgement, Renewal}
 use Rattle.trustregion.specs.declared.session.Session.{Session}
+use Rattle.trustregion.specs.declared.session.Phase.the-variants.{AwaitingCost}
 use Rattle.trustregion.specs.declared.session.Start.{Start}
 use Rattle.trustregion.specs.declared.session.Start.the-variants as start
 use Rattle.trustregion.specs.declared.session.Outcome.{Outcome}
@@ -17,10 +23,19 @@ abbrev pub begun : Answer Session → Start
 begun (refused r) = start.Refused r
 begun (given s) = start.Started s
 
+-- what every refused call returns
+abbrev pub refusing : Session → Refusal → After
+refusing s r = record { session = s; outcome = Refused r }
+
 -- the session and the outcome after an answer, for a session s
 abbrev pub told : {A : Type 0} → (A → Session) → (A → Outcome) → Answer A → Session → After
-told session outcome (refused r) s = record { session = s; outcome = Refused r }
+told session outcome (refused r) s = refusing s r
 told session outcome (given a) s = record { session = session a; outcome = outcome a }
+
+-- what a proposal returns of the offer that it found: "keeps ‖p‖ and m", where slope is p·g and curvature p·H·p
+abbrev pub after-offer : Session → Offered → After
+after-offer s (offered.Refused r) = refusing s r
+after-offer s (offered.Step passes slope curvature norm) = record { session = in-phase (AwaitingCost (s .cost ⊕ slope ⊕ half ⊗ curvature) norm) s; outcome = Proposed passes }
 
 abbrev pub after-proposal : Answer Proposal → Session → After
 after-proposal = told (λ p. p .session) (λ p. Proposed (p .offer .passes))

@@ -1,18 +1,18 @@
 -- The `TrustRegion` session of document 01, on values: what each of its calls answers, for every input, refused ones too. Definitions only.
 -- A call is a function of the session, of n, and of the lent vectors as they are at entry. Its answer is a refusal, or all that the call changes.
-use mathlib.Core.Bool.{Bool, true, false, not, _&&_, _||_, cond}
+use mathlib.Core.Bool.{Bool, true, false, not, _&&_, cond}
 use mathlib.Core.List.{List, [], _∷_}
 use Prim.Native.Nat.{ℕ, _*_}
-use lib.Ieee.{Float, lt, le, eq, isNan}
+use lib.Ieee.{Float, lt, le}
 use Rattle.float.specs.Numbers.{_⊕_, _⊖_, _⊗_, finite, magnitude, smaller}
-use Rattle.float.specs.Constants.{nought, two, half, quarter, three-quarters, ten-epsilons}
+use Rattle.float.specs.Constants.{two, half, quarter, three-quarters, ten-epsilons}
 use Rattle.vectors.specs.Vector.{dot, norm, weighted, all-finite}
 use Rattle.vectors.specs.Refusal.{Answer, refused, given, Check, _if_, unless, then, all-hold, size, sized}
 use Rattle.kernels.specs.Kernel.{Kernel}
 use Rattle.kernels.specs.Ratio.{reduction-ratio}
-use Rattle.vectors.specs.declared.refusal.Refusal.the-variants.{Size, Setting, Turn, Entry, Radius, Range}
+use Rattle.vectors.specs.declared.refusal.Refusal.the-variants.{Size, Setting, Turn, Entry, Range}
 use Rattle.trustregion.specs.Settings.{in-range}
-use Rattle.offer.specs.Offer.{all-sized, steady, Offer, offer}
+use Rattle.offer.specs.Offer.{all-sized, steady, cost-taken, Offer, offer, stepping}
 use Rattle.trustregion.specs.declared.settings.Settings.{Settings}
 use Rattle.trustregion.specs.declared.session.Session.{Session}
 use Rattle.trustregion.specs.declared.session.Phase.{Phase}
@@ -40,8 +40,13 @@ awaits-derivatives Ready = false
 awaits-derivatives (AwaitingCost m norm) = false
 awaits-derivatives AwaitingDerivatives = true
 
+-- a session with another radius and cost, in another phase
+abbrev pub moved : Session → (radius cost : Float) → Phase → Session
+moved s radius cost phase = record { settings = s .settings; radius = radius; cost = cost; phase = phase }
+
+-- only in another phase
 abbrev pub in-phase : Phase → Session → Session
-in-phase phase s = record { settings = s .settings; radius = s .radius; cost = s .cost; phase = phase }
+in-phase phase s = moved s (s .radius) (s .cost) phase
 
 pub record Promise : Type 0 where
   pub model : Float
@@ -61,9 +66,12 @@ start-checks settings f =
     ∷ (Entry if not (finite f))
     ∷ []
 
+abbrev pub begin : Settings → (radius f : Float) → Session
+begin settings radius f = record { settings = settings; radius = radius; cost = f; phase = Ready }
+
 unfoldable pub start : Settings → Float → Answer Session
 unfolding in-range finite
-start settings f = unless (start-checks settings f) (given (record { settings = settings; radius = settings .radius; cost = f; phase = Ready }))
+start settings f = unless (start-checks settings f) (given (begin settings (settings .radius) f))
 
 -- ---- propose
 
@@ -90,16 +98,14 @@ proposal-checks s n point gradient hessian step trial scratch =
     ∷ (Setting if not (sound s))
     ∷ (Turn if not (is-ready (s .phase)))
     ∷ (Entry if not (all-finite point && all-finite gradient && all-finite hessian))
-    ∷ (Radius if eq (s .radius) nought)
     ∷ []
 
--- "propose runs the kernel, writes step and trial = step + point"
+-- refusals 5 to 8 are `stepping`'s
 unfoldable pub proposal : (Settings → Kernel) → Session → ℕ → (point gradient hessian step trial scratch : List Float) → Answer Proposal
 unfolding size sound all-finite offer awaiting
 proposal kernel s n point gradient hessian step trial scratch =
     unless (proposal-checks s n point gradient hessian step trial scratch)
-    (then (λ (o : Offer). given (awaiting s n gradient hessian o))
-    (then (offer n point) (kernel (s .settings) n (s .radius) gradient hessian)))
+    (then (λ (o : Offer). given (awaiting s n gradient hessian o)) (stepping (kernel (s .settings)) n (s .radius) point gradient hessian))
 
 -- ---- the answer with a cost F
 
@@ -126,29 +132,32 @@ unfoldable pub settled : Session → (F ratio radius : Float) → (point trial :
 settled s F ratio radius point trial =
     let accepts = lt (s .settings .eta) ratio in
     record {
-      session = record { settings = s .settings; radius = radius; cost = cond accepts F (s .cost); phase = cond accepts AwaitingDerivatives Ready };
+      session = moved s radius (cond accepts F (s .cost)) (cond accepts AwaitingDerivatives Ready);
       point = cond accepts trial point;
       ratio = ratio;
       accepted = accepts;
     }
 
--- "trial cost infinite (NaN is taken)"
-abbrev pub verdict-checks : (F radius : Float) → (trial : List Float) → List Check
-verdict-checks F radius trial =
-    (Entry if not (all-finite trial && (finite F || isNan F)))
-    ∷ (Range if not (finite radius))
-    ∷ []
+-- "an input entry not finite; .. trial cost infinite (NaN is taken)": "the trial of `TrustRegion`'s cost answer"
+abbrev pub answer-checks : (F : Float) → (trial : List Float) → List Check
+answer-checks F trial = (Entry if not (all-finite trial && cost-taken F)) ∷ []
+
+-- "the next radius .. has a number that is not finite"
+abbrev pub verdict-checks : (radius : Float) → List Check
+verdict-checks radius = (Range if not (finite radius)) ∷ []
 
 -- the verdict by a ratio and the next radius that it gives
 abbrev pub verdict : Session → (F ratio radius : Float) → (point trial : List Float) → Answer Judgement
-verdict s F ratio radius point trial = unless (verdict-checks F radius trial) (given (settled s F ratio radius point trial))
+verdict s F ratio radius point trial = unless (verdict-checks radius) (given (settled s F ratio radius point trial))
 
 abbrev pub radius-by : Session → (ratio norm : Float) → Float
 radius-by s ratio norm = next-radius ratio norm (s .radius) (s .settings .«max_radius»)
 
 unfoldable pub judge : Session → (F : Float) → (point trial : List Float) → Promise → Answer Judgement
-unfolding next-radius settled all-finite finite isNan
-judge s F point trial p = verdict s F (rho (s .cost) F (p .model)) (radius-by s (rho (s .cost) F (p .model)) (p .norm)) point trial
+unfolding next-radius settled all-finite finite cost-taken
+judge s F point trial p =
+    unless (answer-checks F trial)
+    (verdict s F (rho (s .cost) F (p .model)) (radius-by s (rho (s .cost) F (p .model)) (p .norm)) point trial)
 
 abbrev pub judgement-checks : Session → ℕ → (point trial : List Float) → List Check
 judgement-checks s n point trial =

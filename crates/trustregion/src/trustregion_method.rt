@@ -16,20 +16,20 @@ use vectors::refusal::Refusal;
 use vectors::refusal::Verdict;
 use vectors::vector;
 ghost use mathlib.Core.Path.{_≡_};
-ghost use mathlib.Core.Bool.{_&&_, _||_};
+ghost use mathlib.Core.Bool.{_&&_};
 ghost use mathlib.Core.List.{[], _∷_};
 ghost use Prim.Native.Nat.{_*_};
 ghost use lib.Dec.{eqb};
 ghost use lib.ListN.{length};
-ghost use lib.Ieee.{isNan};
-ghost use Rattle.float.specs.Numbers.{_⊕_, _⊗_, finite};
+ghost use Rattle.float.specs.Numbers.{_⊕_, _⊗_};
 ghost use Rattle.float.specs.Constants.{half};
 ghost use Rattle.vectors.specs.Vector.{all-finite};
 ghost use Rattle.vectors.specs.Refusal.{judged, all-hold, size};
+ghost use Rattle.offer.specs.Offer.{cost-taken};
 ghost use Rattle.trustregion.specs.Settings.{chosen};
 ghost use Rattle.trustregion.specs.Session as Definition;
-ghost use Rattle.trustregion.specs.Session.{proposal, judgement-checks, verdict-checks, judgement, renewal-checks, renewal, next-radius};
-ghost use Rattle.trustregion.specs.Calls.{begun, Proposes, Judges, Renews};
+ghost use Rattle.trustregion.specs.Session.{proposal, judgement-checks, judgement, renewal-checks, renewal, next-radius};
+ghost use Rattle.trustregion.specs.Calls.{begun, after-offer, Proposes, Judges, Renews};
 
 // 10·2^-52, which argmin writes as ten epsilons.
 const TEN_EPSILONS: f64 = 2.220446049250313e-15;
@@ -39,19 +39,13 @@ const TEN_EPSILONS: f64 = 2.220446049250313e-15;
 pub fn start(settings: Settings, cost: f64) -> Start
     ensures { λ r. ⌜ r ≡ begun (Definition.start settings cost) ⌝ }
 {
-    let radius = settings.radius;
-    if !settings::in_range(settings) {
-        return Start::Refused(Refusal::Setting);
+    let ranged = settings::in_range(settings);
+    let finite = float::finite(cost);
+    let checks = range::verdict(true, ranged, true, finite);
+    match checks {
+        Verdict::Failed(r) => Start::Refused(r),
+        Verdict::Passed => Start::Started(session::begin(settings, settings.radius, cost)),
     }
-    if !float::finite(cost) {
-        return Start::Refused(Refusal::Entry);
-    }
-    Start::Started(Session {
-        settings: settings,
-        radius: radius,
-        cost: cost,
-        phase: Phase::Ready,
-    })
 }
 
 // ---- propose
@@ -63,7 +57,28 @@ fn model_value(cost: f64, slope: f64, curvature: f64) -> f64
     float::one_nan(cost + slope + 0.5 * curvature)
 }
 
-// A step and the trial point; what it was promised on is kept until its cost comes.
+// A step is promised on its model value and its norm, which are kept until its cost comes.
+fn awaiting(s: Session, offered: Offered) -> After
+    ensures { λ r. ⌜ r ≡ after-offer s offered ⌝ }
+{
+    match offered {
+        Offered::Refused(r) => session::refusing(s, r),
+        Offered::Step {
+            passes,
+            slope,
+            curvature,
+            norm,
+        } => {
+            let model = model_value(s.cost, slope, curvature);
+            After {
+                session: session::in_phase(s, Phase::AwaitingCost(model, norm)),
+                outcome: Outcome::Proposed(passes),
+            }
+        }
+    }
+}
+
+// A step and the trial point.
 pub fn proposed(
     s: Session,
     n: usize,
@@ -77,10 +92,7 @@ pub fn proposed(
     ensures { λ r. ⌜ Proposes (proposal chosen s n (now (point .entry)) (now (gradient .entry)) (now (hessian .entry)) (now (step .entry)) (now (trial .entry)) (now (scratch .entry)))
         s (now (step .entry)) (now (trial .entry)) (now (scratch .entry)) r (now (step .exit)) (now (trial .exit)) (now (scratch .exit)) ⌝ }
 {
-    let settings = s.settings;
-    let radius = s.radius;
-    let cost = s.cost;
-    let choice = settings.choice;
+    let choice = s.settings.choice;
     let phase = s.phase;
     let sound = session::sound(s);
     let ready = session::is_ready(phase);
@@ -88,7 +100,6 @@ pub fn proposed(
         n,
         sound,
         ready,
-        radius == 0.0,
         point,
         gradient,
         hessian,
@@ -97,15 +108,12 @@ pub fn proposed(
         scratch,
     );
     match checks {
-        Verdict::Failed(r) => After {
-            session: s,
-            outcome: Outcome::Refused(r),
-        },
+        Verdict::Failed(r) => session::refusing(s, r),
         Verdict::Passed => {
             let offered = offer::make_unchecked(
                 choice,
                 n,
-                radius,
+                s.radius,
                 point,
                 gradient,
                 hessian,
@@ -113,29 +121,7 @@ pub fn proposed(
                 trial,
                 scratch,
             );
-            match offered {
-                Offered::Refused(r) => After {
-                    session: s,
-                    outcome: Outcome::Refused(r),
-                },
-                Offered::Step {
-                    passes,
-                    slope,
-                    curvature,
-                    norm,
-                } => {
-                    let model = model_value(cost, slope, curvature);
-                    After {
-                        session: Session {
-                            settings: settings,
-                            radius: radius,
-                            cost: cost,
-                            phase: Phase::AwaitingCost(model, norm),
-                        },
-                        outcome: Outcome::Proposed(passes),
-                    }
-                }
-            }
+            awaiting(s, offered)
         }
     }
 }
@@ -147,32 +133,17 @@ fn judgement_checked(s: Session, n: usize, point: &[f64], trial: &[f64]) -> Verd
 {
     let sized = refusal::vectors(n, point.len(), trial.len());
     let sound = session::sound(s);
-    range::verdict(sized, sound, true, true, false)
+    range::verdict(sized, sound, true, true)
 }
 
-// A hidden marker's cost is a NaN: that is an answer, an infinity is none.
+// What refusal 4 asks of an answer.
 fn answered(cost: f64, trial: &[f64]) -> bool
-    ensures { λ r. ⌜ r ≡ (all-finite (now (trial .entry)) && (finite cost || isNan cost)) ⌝ }
+    ensures { λ r. ⌜ r ≡ (all-finite (now (trial .entry)) && cost-taken cost) ⌝ }
 {
     if !vector::all_finite(trial) {
         return false;
     }
-    if float::finite(cost) {
-        return true;
-    }
-    float::is_nan(cost)
-}
-
-fn verdict_checked(cost: f64, radius: f64, trial: &[f64]) -> Verdict
-    ensures { λ r. ⌜ r ≡ judged (verdict-checks cost radius (now (trial .entry))) ⌝ }
-{
-    if !answered(cost, trial) {
-        return Verdict::Failed(Refusal::Entry);
-    }
-    if !float::finite(radius) {
-        return Verdict::Failed(Refusal::Range);
-    }
-    Verdict::Passed
+    range::cost_taken(cost)
 }
 
 // A NaN ratio is not below 0.25, nor above 0.75: it keeps the radius.
@@ -195,42 +166,24 @@ fn judge(s: Session, model: f64, norm: f64, answer: f64, point: &mut [f64], tria
     requires { ⌜ length (now point) ≡ length (now trial) ⌝ }
     ensures { λ r. ⌜ Judges (Definition.judge s answer (now (point .entry)) (now (trial .entry)) (record { model = model; norm = norm })) s (now (point .entry)) r (now (point .exit)) ⌝ }
 {
-    let settings = s.settings;
-    let radius = s.radius;
-    let before = s.cost;
-    let max_radius = settings.max_radius;
-    let eta = settings.eta;
-    let ratio = kernels::reduction_ratio(before, answer, before, model);
-    let next = next_radius(ratio, norm, radius, max_radius);
-    let checks = verdict_checked(answer, next, trial);
-    match checks {
-        Verdict::Failed(r) => After {
-            session: s,
-            outcome: Outcome::Refused(r),
-        },
-        Verdict::Passed => {
-            if eta < ratio {
-                lent::copy(trial, point);
-                return After {
-                    session: Session {
-                        settings: settings,
-                        radius: next,
-                        cost: answer,
-                        phase: Phase::AwaitingDerivatives,
-                    },
-                    outcome: Outcome::Accepted(ratio),
-                };
-            }
-            After {
-                session: Session {
-                    settings: settings,
-                    radius: next,
-                    cost: before,
-                    phase: Phase::Ready,
-                },
-                outcome: Outcome::Rejected(ratio),
-            }
-        }
+    if !answered(answer, trial) {
+        return session::refusing(s, Refusal::Entry);
+    }
+    let ratio = kernels::reduction_ratio(s.cost, answer, s.cost, model);
+    let next = next_radius(ratio, norm, s.radius, s.settings.max_radius);
+    if !float::finite(next) {
+        return session::refusing(s, Refusal::Range);
+    }
+    if s.settings.eta < ratio {
+        lent::copy(trial, point);
+        return After {
+            session: session::moved(s, next, answer, Phase::AwaitingDerivatives),
+            outcome: Outcome::Accepted(ratio),
+        };
+    }
+    After {
+        session: session::moved(s, next, s.cost, Phase::Ready),
+        outcome: Outcome::Rejected(ratio),
     }
 }
 
@@ -240,20 +193,11 @@ pub fn judged(s: Session, n: usize, cost: f64, point: &mut [f64], trial: &[f64])
     let phase = s.phase;
     let checks = judgement_checked(s, n, point, trial);
     match checks {
-        Verdict::Failed(r) => After {
-            session: s,
-            outcome: Outcome::Refused(r),
-        },
+        Verdict::Failed(r) => session::refusing(s, r),
         Verdict::Passed => match phase {
             Phase::AwaitingCost(model, norm) => judge(s, model, norm, cost, point, trial),
-            Phase::Ready => After {
-                session: s,
-                outcome: Outcome::Refused(Refusal::Turn),
-            },
-            Phase::AwaitingDerivatives => After {
-                session: s,
-                outcome: Outcome::Refused(Refusal::Turn),
-            },
+            Phase::Ready => session::refusing(s, Refusal::Turn),
+            Phase::AwaitingDerivatives => session::refusing(s, Refusal::Turn),
         },
     }
 }
@@ -303,7 +247,7 @@ fn renewal_checked(
     let sound = session::sound(s);
     let in_turn = session::awaits_derivatives(phase);
     let finite = vector::both_finite(new_gradient, new_hessian);
-    range::verdict(sized, sound, in_turn, finite, false)
+    range::verdict(sized, sound, in_turn, finite)
 }
 
 pub fn renewed(
@@ -317,25 +261,14 @@ pub fn renewed(
     ensures { λ r. ⌜ Renews (renewal s n (now («new_gradient» .entry)) (now («new_hessian» .entry)) (now (gradient .entry)) (now (hessian .entry)))
         s (now (gradient .entry)) (now (hessian .entry)) r (now (gradient .exit)) (now (hessian .exit)) ⌝ }
 {
-    let settings = s.settings;
-    let radius = s.radius;
-    let cost = s.cost;
     let checks = renewal_checked(s, n, new_gradient, new_hessian, gradient, hessian);
     match checks {
-        Verdict::Failed(r) => After {
-            session: s,
-            outcome: Outcome::Refused(r),
-        },
+        Verdict::Failed(r) => session::refusing(s, r),
         Verdict::Passed => {
             lent::copy(new_gradient, gradient);
             lent::copy(new_hessian, hessian);
             After {
-                session: Session {
-                    settings: settings,
-                    radius: radius,
-                    cost: cost,
-                    phase: Phase::Ready,
-                },
+                session: session::in_phase(s, Phase::Ready),
                 outcome: Outcome::Taken,
             }
         }

@@ -13,6 +13,7 @@ table =
     ∷ equation lent.«inputs_finite».ended (λ M. lent.«inputs_finite».spec) (λ w κs a g r. refl) (λ κs a s s₂. refl)
     ∷ unique lent.copy.ended (λ M. lent.copy.spec) (λ w κs a g r. refl) (λ κs a r r₂ s s₂ p q. (refl, λ i. tt & alike p q i & tt))
     ∷ equation range.steady.ended (λ M. range.steady.spec) (λ w κs a g r. refl) (λ κs a s s₂. refl)
+    ∷ equation range.«cost_taken».ended (λ M. range.«cost_taken».spec) (λ w κs a g r. refl) (λ κs a s s₂. refl)
     ∷ equation range.verdict.ended (λ M. range.verdict.spec) (λ w κs a g r. refl) (λ κs a s s₂. refl)
     ∷ equation range.proposal.ended (λ M. range.proposal.spec) (λ w κs a g r. refl) (λ κs a s s₂. refl)
     ∷ []

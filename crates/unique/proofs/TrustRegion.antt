@@ -28,6 +28,8 @@ pub table : List Line
 table =
     equation settings.Settings.new.ended (λ M. settings.Settings.new.spec) (λ w κs a g r. refl) (λ κs a s s₂. refl)
     ∷ equation settings.«in_range».ended (λ M. settings.«in_range».spec) (λ w κs a g r. refl) (λ κs a s s₂. refl)
+    ∷ equation session.begin.ended (λ M. session.begin.spec) (λ w κs a g r. refl) (λ κs a s s₂. refl)
+    ∷ equation session.moved.ended (λ M. session.moved.spec) (λ w κs a g r. refl) (λ κs a s s₂. refl)
     ∷ equation session.sound.ended (λ M. session.sound.spec) (λ w κs a g r. refl) (λ κs a s s₂. refl)
     ∷ equation session.«is_ready».ended (λ M. session.«is_ready».spec) (λ w κs a g r. refl) (λ κs a s s₂. refl)
     ∷ equation session.«awaits_derivatives».ended (λ M. session.«awaits_derivatives».spec) (λ w κs a g r. refl) (λ κs a s s₂. refl)

@@ -10,5 +10,4 @@ verdict-spec =
     (λ c. rw (c .before .if1 .left, c .if2 .taken))
     (λ c. rw (c .before .before .if1 .left, c .before .if2 .left, c .if3 .taken))
     (λ c. let sound = c .before .before in rw (sound .before .if1 .left, sound .if2 .left, c .before .if3 .left, c .if4 .taken))
-    (λ c. let turn = c .before .before in rw (turn .before .before .if1 .left, turn .before .if2 .left, turn .if3 .left, c .before .if4 .left, c .if5 .taken))
-    (λ c. let turn = c .before .before in rw (turn .before .before .if1 .left, turn .before .if2 .left, turn .if3 .left, c .before .if4 .left, c .if5 .left)))
+    (λ c. let sound = c .before .before in rw (sound .before .if1 .left, sound .if2 .left, c .before .if3 .left, c .if4 .left)))

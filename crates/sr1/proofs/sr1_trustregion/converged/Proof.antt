@@ -6,4 +6,4 @@ use Rattle.sr1.proofs.sr1_trustregion.converged.Tie as tie
 
 pub converged-spec : {M : Type 1} → statement M
 unfolding converged
-converged-spec = tie.close (tie.spec (λ c κs. search needs) (λ c. rw (c .norm-any .ensures)))
+converged-spec = tie.close (tie.spec (λ c κs. search needs) (λ c. rw (c .before .norm-any .ensures)))

@@ -10,7 +10,7 @@ judge-requires : tie.Need-judge-requires
 judge-requires c κs = let told = c .before .before .before .before .before .before .before in sym (told .before .before .judgement-checked .ensures) ∙ told .enum-told .given .1
 
 returns : tie.Need-returns
-returns c = judges-not _ _ _ _ _ _ _ _ _ _ _ (c .before .before .before .judgement-checked .ensures) _ (c .before .checks .given .1)
+returns c = judges-not _ _ _ _ _ _ _ _ _ _ _ (c .before .before .before .before .judgement-checked .ensures) _ (c .before .before .checks .given .1) _ (c .refusing .ensures)
 
 returns-2 : tie.Need-returns-2
 returns-2 c =
@@ -21,17 +21,16 @@ returns-2 c =
 
 returns-3 : tie.Need-returns-3
 returns-3 c =
-    let told = c .before .before in
-    judges-out-of-turn _ _ _ _ _ _ _ _ _ _ _ (told .before .before .judgement-checked .ensures) (told .enum-told .given .1) (ap promised (c .enum-told2 .given .1))
+    let told = c .before .before .before in
+    judges-out-of-turn _ _ _ _ _ _ _ _ _ _ _ (told .before .before .judgement-checked .ensures) (told .enum-told .given .1) (ap promised (c .before .enum-told2 .given .1)) _ (c .refusing2 .ensures)
 
 pub judged-spec : {M : Type 1} → statement M
 judged-spec =
     tie.close
     (tie.spec
-    (λ c κs. search needs) (λ c. search needs) (λ c. search needs) (λ c. search needs)
+    (λ c κs. search needs) (λ c. search needs) (λ c κs. search needs) (λ c. search needs) (λ c. search needs)
     judge-requires
-    (λ c. search needs)
-    (λ c. search needs) (λ c. search needs) (λ c. search needs) (λ c. search needs)
+    (λ c. search needs) (λ c κs. search needs) (λ c. search needs) (λ c. search needs) (λ c. search needs) (λ c. search needs)
     returns
     (λ c. search needs) (λ c. search needs) (λ c. search needs) (λ c. search needs)
     returns-2

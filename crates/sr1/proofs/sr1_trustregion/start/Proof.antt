@@ -14,6 +14,6 @@ pub start-spec : {M : Type 1} → statement M
 start-spec =
     tie.close
     (tie.spec
-    (λ c κs. search needs) (λ c κs. search needs) (λ c κs. search needs) (λ c. search needs) (λ c. search needs) (λ c κs. search needs)
+    (λ c κs. search needs) (λ c κs. search needs) (λ c κs. search needs) (λ c. search needs) (λ c. search needs) (λ c κs. search needs) (λ c κs. search needs)
     (λ c. starts-not _ _ _ (judges (c .before .before .before)) _ (c .before .checks .given .1))
-    (λ c. starts _ _ _ (judges (c .before .before .before)) (c .before .enum-told .given .1) _ (c .magnitude .ensures)))
+    (λ c. let told = c .before .before in starts _ _ _ (judges (told .before .before)) (told .enum-told .given .1) _ (c .before .magnitude .ensures) _ (c .begin .ensures)))

@@ -1,5 +1,4 @@
 -- `trustregion::trustregion_method::answered` meets its contract. Assumes nothing.
-use mathlib.Core.Path.{sym, _∙_}
 use borrow.Author.Needs.{needs}
 use Rattle.vectors.proofs.Sizes.{failed, passed}
 use Rattle.trustregion.proofs.trustregion_method.answered.Statement.{statement}
@@ -12,9 +11,4 @@ answered-spec =
     (λ c κs. search needs)
     (λ c. rw (failed (c .before .all-finite .ensures) (c .if1 .taken)))
     (λ c κs. search needs)
-    (λ c. let trial = c .before .before in rw (passed (trial .before .all-finite .ensures) (trial .if1 .left), sym (c .before .finite .ensures) ∙ c .if2 .taken))
-    (λ c κs. search needs)
-    (λ c.
-    let cost = c .before in
-    let trial = cost .before .before in
-    rw (passed (trial .before .all-finite .ensures) (trial .if1 .left), sym (cost .before .finite .ensures) ∙ cost .if2 .left) (c .is-nan .ensures)))
+    (λ c. let trial = c .before in rw (passed (trial .before .all-finite .ensures) (trial .if1 .left)) (c .cost-taken .ensures)))

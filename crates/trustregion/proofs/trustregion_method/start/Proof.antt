@@ -1,15 +1,19 @@
 -- `trustregion::trustregion_method::start` meets its contract. Assumes nothing.
+use mathlib.Core.Path.{_≡_, _∙_}
 use borrow.Author.Needs.{needs}
-use Rattle.vectors.proofs.Sizes.{failed, passed}
-use Rattle.trustregion.specs.Session.{start}
+use Rattle.vectors.specs.Refusal.{judged}
+use Rattle.trustregion.specs.Session.{start-checks}
+use Rattle.trustregion.proofs.Ends.{starts-not, starts}
 use Rattle.trustregion.proofs.trustregion_method.start.Statement.{statement}
 use Rattle.trustregion.proofs.trustregion_method.start.Tie as tie
 
+judges : (c : tie.After-verdict) → let a = c .before .before .before .args in c .verdict .result ≡ judged (start-checks (a .settings) (a .cost))
+judges c = c .verdict .ensures ∙ rw (c .before .before .in-range .ensures, c .before .finite .ensures)
+
 pub start-spec : {M : Type 1} → statement M
-unfolding start
 start-spec =
     tie.close
-    (tie.spec (λ c κs. search needs)
-    (λ c. rw (failed (c .before .in-range .ensures) (c .if1 .taken))) (λ c κs. search needs)
-    (λ c. let settings = c .before .before in rw (passed (settings .before .in-range .ensures) (settings .if1 .left), failed (c .before .finite .ensures) (c .if2 .taken)))
-    (λ c. let settings = c .before .before in rw (passed (settings .before .in-range .ensures) (settings .if1 .left), passed (c .before .finite .ensures) (c .if2 .left))))
+    (tie.spec
+    (λ c κs. search needs) (λ c κs. search needs) (λ c κs. search needs) (λ c. search needs) (λ c. search needs) (λ c κs. search needs)
+    (λ c. starts-not _ _ _ (judges (c .before .before .before)) _ (c .before .checks .given .1))
+    (λ c. starts _ _ _ (judges (c .before .before .before)) (c .before .enum-told .given .1) _ (c .begin .ensures)))

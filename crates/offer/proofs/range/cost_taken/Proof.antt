@@ -1,10 +1,12 @@
--- `sr1::sr1_trustregion::cost_taken` meets its contract. Assumes nothing.
+-- `offer::range::cost_taken` meets its contract. Assumes nothing.
 use mathlib.Core.Path.{sym, _∙_}
 use borrow.Author.Needs.{needs}
-use Rattle.sr1.proofs.sr1_trustregion.cost_taken.Statement.{statement}
-use Rattle.sr1.proofs.sr1_trustregion.cost_taken.Tie as tie
+use Rattle.offer.specs.Offer.{cost-taken}
+use Rattle.offer.proofs.range.cost_taken.Statement.{statement}
+use Rattle.offer.proofs.range.cost_taken.Tie as tie
 
 pub cost-taken-spec : {M : Type 1} → statement M
+unfolding cost-taken
 cost-taken-spec =
     tie.close
     (tie.spec

@@ -1,0 +1,12 @@
+-- `sr1::sr1_trustregion::awaiting` meets its contract. Assumes nothing.
+use borrow.Author.Needs.{needs}
+use Rattle.sr1.proofs.sr1_trustregion.awaiting.Statement.{statement}
+use Rattle.sr1.proofs.sr1_trustregion.awaiting.Tie as tie
+
+pub awaiting-spec : {M : Type 1} → statement M
+awaiting-spec =
+    tie.close
+    (tie.spec
+    (λ c. search needs) (λ c κs. search needs) (λ c. search needs) (λ c κs. search needs) (λ c κs. search needs)
+    (λ c. rw (c .before .before .offered .given .1) (c .refusing .ensures))
+    (λ c. let step = c .before .before .before in rw (step .offered2 .given .1, c .in-phase .ensures, c .before .predicted-fall .ensures)))

@@ -1,0 +1,12 @@
+-- `trustregion::trustregion_method::awaiting` meets its contract. Assumes nothing.
+use borrow.Author.Needs.{needs}
+use Rattle.trustregion.proofs.trustregion_method.awaiting.Statement.{statement}
+use Rattle.trustregion.proofs.trustregion_method.awaiting.Tie as tie
+
+pub awaiting-spec : {M : Type 1} → statement M
+awaiting-spec =
+    tie.close
+    (tie.spec
+    (λ c. search needs) (λ c κs. search needs) (λ c. search needs) (λ c κs. search needs) (λ c κs. search needs)
+    (λ c. rw (c .before .before .offered .given .1) (c .refusing .ensures))
+    (λ c. let step = c .before .before .before in rw (step .offered2 .given .1, c .in-phase .ensures, c .before .model-value .ensures)))
