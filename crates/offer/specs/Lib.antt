@@ -1,2 +1,3 @@
 pub mod Offer
 pub mod Calls
+pub mod Run

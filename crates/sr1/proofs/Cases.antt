@@ -1,18 +1,22 @@
--- The radius rule and the order of the checks, worked out over the definitions. Assumes nothing. (Document 01's marked cases are crates/marked.)
+-- The radius rule, a run and the order of the checks, worked out over the definitions. Assumes nothing. (Document 01's marked cases are crates/marked.)
 use mathlib.Core.Path.{_≡_, refl}
 use mathlib.Core.Bool.{false}
-use mathlib.Core.List.{List, [], _∷_}
+use mathlib.Core.List.{List, [], _∷_, _++_, map}
 use Prim.Native.Nat.{ℕ}
 use lib.Ieee.{Float, nan, inf, binary64, round, ofBits, add, sub, mul, div, neg, lt, le, eq, isNan}
 use Rattle.float.specs.Constants.{nought, one, two, half, thousandth}
 use Rattle.vectors.specs.Vector.{zeros}
 use Rattle.vectors.specs.Refusal.{Answer, refused, given, number, room}
 use Rattle.kernels.specs.Choice as Choice
+use Rattle.vectors.specs.declared.refusal.Refusal.the-variants.{Size, Turn}
+use Rattle.offer.specs.Run.{own, Call, Entry, run, final}
 use Rattle.sr1.specs.Settings.{by-default, chosen}
 use Rattle.sr1.specs.Session.{start, proposal, next-radius, judgement}
+use Rattle.sr1.specs.Run.{Station, Request, propose, answer, Told, outcome, respond}
 use Rattle.sr1.specs.declared.session.Session.{Session}
 use Rattle.sr1.specs.declared.session.Phase.{Phase}
 use Rattle.sr1.specs.declared.session.Phase.the-variants.{Ready, AwaitingCost}
+use Rattle.sr1.specs.declared.session.Outcome.the-variants.{Refused, Proposed, Accepted}
 
 infix 30 _over_
 -- a / b, rounded once
@@ -38,6 +42,42 @@ pub radii :
     ≡ (10 over 1) ∷ (10 over 1) ∷ (20 over 1) ∷ (10 over 1) ∷ (10 over 1) ∷ (5 over 1) ∷ (5 over 1) ∷ []
 unfolding _over_ next-radius ofBits mul lt le
 radii = refl
+
+-- ---- a run
+
+-- The Cauchy point of g = (3, 4) and the identity at radius 2.5 is (−1.5, −2), of length 2.5; the model promises a fall of 9.375.
+unfoldable pub station : Station
+unfolding _over_ zeros
+station = record {
+  session = session (5 over 2) (10 over 1) Ready;
+  lent = record {
+    point = one ∷ one ∷ [];
+    gradient = (3 over 1) ∷ (4 over 1) ∷ [];
+    hessian = one ∷ nought ∷ nought ∷ one ∷ [];
+    step = nought ∷ nought ∷ [];
+    trial = nought ∷ nought ∷ [];
+    scratch = zeros (room 2);
+  };
+}
+
+abbrev call : Request → Call Request
+call q = record { request = q; lending = own }
+
+-- A trial, with calls inside it that are refused by 3 and by 1. Its answer has z = (0, −2) and q = 4, so that the last number of the Hessian gains 1.
+abbrev script : List (Call Request)
+script = call (propose 2) ∷ call (propose 2) ∷ call (answer 3 one []) ∷ call (answer 2 (5 over 8) ((3 over 2) ∷ nought ∷ [])) ∷ []
+
+abbrev numbers : Station → List Float
+numbers s = s .session .radius ∷ s .session .cost ∷ s .lent .point ++ s .lent .gradient ++ s .lent .hessian
+
+-- The ratio is 1, and the radius doubles.
+pub record Ran : Type 0 where
+  pub replies : map (λ (e : Entry Request Told). outcome (e .reply)) (run (respond chosen) station script) ≡ Proposed 0 ∷ Refused Turn ∷ Refused Size ∷ Accepted one ∷ []
+  pub ends : numbers (final (respond chosen) station script) ≡ (5 over 1) ∷ (5 over 8) ∷ neg (1 over 2) ∷ neg one ∷ (3 over 2) ∷ nought ∷ one ∷ nought ∷ nought ∷ two ∷ []
+
+pub ran : Ran
+unfolding station _over_ zeros respond Choice.kernel ofBits add sub mul div neg lt le eq isNan
+ran = record { replies = refl; ends = refl }
 
 -- ---- "Checked in this order; the lowest that applies is given, and none is given otherwise."
 

@@ -1,4 +1,5 @@
 pub mod Cases
+pub mod Calls
 pub mod Hessians
 pub mod Ends
 pub mod Kind

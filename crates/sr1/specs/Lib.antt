@@ -1,3 +1,4 @@
 pub mod Settings
 pub mod Session
 pub mod Calls
+pub mod Run

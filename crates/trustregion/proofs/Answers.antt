@@ -1,89 +1,152 @@
--- What each call can come to: a refusal, or one answer, and then its checks have passed. Assumes nothing.
-use mathlib.Core.Path.{_≡_, refl}
+-- What one call comes to on two stations that share what a run goes by: on both the same refusal, or the same answer, and then its checks have passed. Assumes nothing.
+use mathlib.Core.Path.{_≡_, refl, ap}
 use mathlib.Core.List.{List}
 use Prim.Native.Nat.{ℕ}
 use lib.Dec.{T}
 use lib.ListN.{length}
 use lib.Ieee.{Float}
-use Rattle.vectors.specs.Refusal.{Answer, refused, given, then}
+use Rattle.vectors.specs.Refusal.{Answer, refused, given, Check, then}
 use Rattle.kernels.specs.Kernel.{Kernel, Made}
 use Rattle.vectors.specs.declared.refusal.Refusal.{Refusal}
 use Rattle.offer.specs.Offer.{all-sized, Offer, offered, offer-checks, offer, step-checks, stepping}
-use Rattle.trustregion.specs.Session.{sound, is-ready, Promise, promised, Proposal, awaiting, proposal-checks, proposal, Judgement, rho, radius-by, settled, answer-checks, verdict-checks, judge, judgement-checks, judgement, Renewal, renewal-checks, renewed-by, renewal}
-use Rattle.trustregion.specs.Run.{Station, Request, propose, cost, derivatives, refusal, Done, on-proposal, on-judgement, on-renewal, respond}
+use Rattle.trustregion.specs.Session.{sound, is-ready, awaits-cost, Promise, promised, Proposal, awaiting, proposal-checks, proposal, Judgement, rho, radius-by, settled, answer-checks, verdict-checks, judge, judgement-checks, judgement, Renewal, renewal-checks, renewed-by, renewal}
+use Rattle.trustregion.specs.Run.{Station, Request, propose, cost, derivatives, Done, on-proposal, on-judgement, on-renewal, proposal-at, judgement-at, renewal-at, respond}
 use Rattle.trustregion.specs.declared.settings.Settings.{Settings}
-use Rattle.trustregion.specs.declared.session.Session.{Session}
-use Rattle.offer.proofs.Checks.{unless-elim, then-elim, not-not, scratch-length}
+use Rattle.trustregion.specs.declared.session.Phase.{Phase}
+use Rattle.trustregion.specs.declared.session.Phase.the-variants.{Ready, AwaitingCost, AwaitingDerivatives}
+use Rattle.offer.proofs.Checks.{unless-elim, then-elim, not-not, clash, scratch-length}
+use Rattle.offer.proofs.Runs.{answer-elim, unless-both}
 
--- a property of every refusal
-abbrev pub Refusals : {A : Type 0} → (Answer A → Type 0) → Type 0
-Refusals P = (r : Refusal) → P (refused r)
-
-module _ (kernel : Settings → Kernel) (s : Session) (n : ℕ) (point gradient hessian step trial scratch : List Float) (P : Answer Proposal → Type 0) where
-  follows : Answer Offer → Answer Proposal
-  follows = then (λ (o : Offer). given (awaiting s n gradient hessian o))
-
-  pub proposal-elim : Refusals P
-      → ((m : Made) → T (all-sized n point gradient hessian step trial scratch) → T (is-ready (s .phase)) → kernel (s .settings) n (s .radius) gradient hessian ≡ given m
-      → P (given (awaiting s n gradient hessian (offered n point m))))
-      → P (proposal kernel s n point gradient hessian step trial scratch)
-  unfolding proposal offer follows
-  proposal-elim bad good =
-      unless-elim P (proposal-checks s n point gradient hessian step trial scratch) (follows (stepping (kernel (s .settings)) n (s .radius) point gradient hessian)) bad (λ w.
-      unless-elim (λ (x : Answer Offer). P (follows x)) (step-checks (s .radius)) (then (offer n point) (kernel (s .settings) n (s .radius) gradient hessian)) bad (λ far.
-      then-elim (λ (x : Answer Offer). P (follows x)) (offer n point) (kernel (s .settings) n (s .radius) gradient hessian) bad (λ m e.
-      unless-elim (λ (x : Answer Offer). P (follows x)) (offer-checks (offered n point m)) (given (offered n point m)) bad (λ v.
-      good m (not-not (all-sized n point gradient hessian step trial scratch) (w .0)) (not-not (is-ready (s .phase)) (w .1 .1 .0)) e))))
-
-module _ (s : Session) (n : ℕ) (F : Float) (point trial : List Float) (P : Answer Judgement → Type 0) where
-  pub judgement-elim : Refusals P
-      → ((p : Promise) → promised (s .phase) ≡ given p → T (sound s)
-      → P (given (settled s F (rho (s .cost) F (p .model)) (radius-by s (rho (s .cost) F (p .model)) (p .norm)) point trial)))
-      → P (judgement s n F point trial)
-  unfolding judgement judge
-  judgement-elim bad good =
-      unless-elim P (judgement-checks s n point trial) (then (judge s F point trial) (promised (s .phase))) bad (λ w.
-      then-elim P (judge s F point trial) (promised (s .phase)) bad (λ p e.
-      unless-elim P (answer-checks F trial) _ bad (λ u.
-      unless-elim P (verdict-checks (radius-by s (rho (s .cost) F (p .model)) (p .norm))) _ bad (λ v.
-      good p e (not-not (sound s) (w .1 .0))))))
-
-module _ (s : Session) (n : ℕ) (new-gradient new-hessian gradient hessian : List Float) (P : Answer Renewal → Type 0) where
-  pub renewal-elim : Refusals P → P (given (renewed-by s new-gradient new-hessian)) → P (renewal s n new-gradient new-hessian gradient hessian)
-  unfolding renewal
-  renewal-elim bad good = unless-elim P (renewal-checks s n new-gradient new-hessian gradient hessian) _ bad (λ w. good)
-
--- ---- what one call on a station comes to
-
--- s with other work vectors
-abbrev pub other : Station → (step trial scratch : List Float) → Station
-other s step trial scratch = record {
-  session = s .session;
-  lent = record { point = s .lent .point; gradient = s .lent .gradient; hessian = s .lent .hessian; step = step; trial = trial; scratch = scratch };
+-- What a run goes by, of s; the rest, of t. (Another field of a session is said here, to be the one or the other, and in no other place of these files.)
+abbrev pub joined : Station → Station → Station
+joined s t = record {
+  session = record { settings = s .session .settings; radius = s .session .radius; cost = s .session .cost; phase = s .session .phase };
+  lent = record { point = s .lent .point; gradient = s .lent .gradient; hessian = s .lent .hessian; step = t .lent .step; trial = t .lent .trial; scratch = t .lent .scratch };
 }
+
+-- Of the rest it goes by the lengths and, where a cost is awaited, by step and trial.
+abbrev pub sizes : Station → ℕ × ℕ × ℕ
+sizes s = (length (s .lent .step), length (s .lent .trial), length (s .lent .scratch))
+
+abbrev pub Held : Station → Station → Type 0
+Held s t = T (awaits-cost (s .session .phase)) → (s .lent .step ≡ t .lent .step) × (s .lent .trial ≡ t .lent .trial)
+
+pub promise-held : (phase : Phase) (p : Promise) → promised phase ≡ given p → T (awaits-cost phase)
+promise-held Ready p e = absurd (clash e)
+promise-held AwaitingDerivatives p e = absurd (clash e)
+promise-held (AwaitingCost m o) p e = tt
+
+-- ---- what a call can come to
+
+abbrev pub with-scratch : Station → List Float → Station
+with-scratch s w = record {
+  session = s .session;
+  lent = record { point = s .lent .point; gradient = s .lent .gradient; hessian = s .lent .hessian; step = s .lent .step; trial = s .lent .trial; scratch = w };
+}
+
+abbrev pub offered-at : Station → ℕ → Made → Proposal
+offered-at s n m = awaiting (s .session) n (s .lent .gradient) (s .lent .hessian) (offered n (s .lent .point) m)
 
 abbrev pub judged-by : Station → Float → Promise → Judgement
 judged-by s F p =
     let ratio = rho (s .session .cost) F (p .model) in
     settled (s .session) F ratio (radius-by (s .session) ratio (p .norm)) (s .lent .point) (s .lent .trial)
 
--- Refused, it keeps all but what the scratch holds; else its checks have passed.
-pub data Came (kernel : Settings → Kernel) (s : Station) : Done → Type 0 where
-  refuses : (r : Refusal) (scratch : List Float) → length scratch ≡ length (s .lent .scratch) → Came kernel s (record { reply = refusal r; after = other s (s .lent .step) (s .lent .trial) scratch })
+-- Refused, it keeps all but what the scratch holds.
+pub data Came (kernel : Settings → Kernel) (s t : Station) : Done → Done → Type 0 where
+  refuses : (r : Refusal) (w v : List Float) → length w ≡ length (s .lent .scratch) → length v ≡ length (t .lent .scratch)
+      → Came kernel s t (record { reply = refused r; after = with-scratch s w }) (record { reply = refused r; after = with-scratch (joined s t) v })
   offers : (n : ℕ) (m : Made) → T (all-sized n (s .lent .point) (s .lent .gradient) (s .lent .hessian) (s .lent .step) (s .lent .trial) (s .lent .scratch)) → T (is-ready (s .session .phase))
       → kernel (s .session .settings) n (s .session .radius) (s .lent .gradient) (s .lent .hessian) ≡ given m
-      → Came kernel s (on-proposal s (given (awaiting (s .session) n (s .lent .gradient) (s .lent .hessian) (offered n (s .lent .point) m))))
-  judges : (F : Float) (p : Promise) → promised (s .session .phase) ≡ given p → T (sound (s .session)) → Came kernel s (on-judgement s F (given (judged-by s F p)))
-  renews : (g H : List Float) → Came kernel s (on-renewal s (given (renewed-by (s .session) g H)))
+      → Came kernel s t (on-proposal s (given (offered-at s n m))) (on-proposal (joined s t) (given (offered-at (joined s t) n m)))
+  judges : (F : Float) (p : Promise) → promised (s .session .phase) ≡ given p → T (sound (s .session))
+      → Came kernel s t (on-judgement s F (given (judged-by s F p))) (on-judgement (joined s t) F (given (judged-by (joined s t) F p)))
+  renews : (g H : List Float) → Came kernel s t (on-renewal s (given (renewed-by (s .session) g H))) (on-renewal (joined s t) (given (renewed-by (joined s t .session) g H)))
 
-pub comes : (kernel : Settings → Kernel) (q : Request) (s : Station) → Came kernel s (respond kernel q s)
-unfolding respond on-proposal on-judgement on-renewal
-comes kernel (propose n) s =
-    proposal-elim kernel (s .session) n (s .lent .point) (s .lent .gradient) (s .lent .hessian) (s .lent .step) (s .lent .trial) (s .lent .scratch)
-    (λ (a : Answer Proposal). Came kernel s (on-proposal s a)) (λ r. refuses r _ (scratch-length {A = Proposal} (refused r) (s .lent .scratch))) (λ m z t e. offers n m z t e)
-comes kernel (cost n F) s =
-    judgement-elim (s .session) n F (s .lent .point) (s .lent .trial)
-    (λ (a : Answer Judgement). Came kernel s (on-judgement s F a)) (λ r. refuses r _ refl) (λ p e t. judges F p e t)
-comes kernel (derivatives n g H) s =
-    renewal-elim (s .session) n g H (s .lent .gradient) (s .lent .hessian)
-    (λ (a : Answer Renewal). Came kernel s (on-renewal s a)) (λ r. refuses r _ refl) (renews g H)
+module _ (kernel : Settings → Kernel) (s t : Station) (as-large : sizes s ≡ sizes t) (held : Held s t) where
+  step-size : length (s .lent .step) ≡ length (t .lent .step)
+  step-size = λ i. as-large i .0
+
+  trial-size : length (s .lent .trial) ≡ length (t .lent .trial)
+  trial-size = λ i. as-large i .1
+
+  scratch-size : length (s .lent .scratch) ≡ length (t .lent .scratch)
+  scratch-size = λ i. as-large i .2
+
+  -- ---- a proposal looks at the lengths alone
+  abbrev Proposals : Answer Proposal → Answer Proposal → Type 0
+  Proposals a b = Came kernel s t (on-proposal s a) (on-proposal (joined s t) b)
+
+  no-proposal : (r : Refusal) → Proposals (refused r) (refused r)
+  unfolding on-proposal
+  no-proposal r = refuses r _ _ (scratch-length {A = Proposal} (refused r) (s .lent .scratch)) (scratch-length {A = Proposal} (refused r) (t .lent .scratch))
+
+  abbrev lent-checks : Station → ℕ → List Check
+  lent-checks x n = proposal-checks (x .session) n (x .lent .point) (x .lent .gradient) (x .lent .hessian) (x .lent .step) (x .lent .trial) (x .lent .scratch)
+
+  same-checks : (n : ℕ) → lent-checks s n ≡ lent-checks (joined s t) n
+  unfolding sound
+  same-checks n = rw (step-size, trial-size, scratch-size)
+
+  abbrev follows : Station → ℕ → Answer Offer → Answer Proposal
+  follows x n = then (λ (o : Offer). given (awaiting (x .session) n (x .lent .gradient) (x .lent .hessian) o))
+
+  came-proposal : (n : ℕ) → Proposals (proposal-at kernel s n) (proposal-at kernel (joined s t) n)
+  unfolding proposal offer
+  came-proposal n =
+      let step = kernel (s .session .settings) n (s .session .radius) (s .lent .gradient) (s .lent .hessian) in
+      let way = stepping (kernel (s .session .settings)) n (s .session .radius) (s .lent .point) (s .lent .gradient) (s .lent .hessian) in
+      unless-both Proposals (same-checks n) (follows s n way) (follows (joined s t) n way) no-proposal (λ w.
+      unless-elim (λ (x : Answer Offer). Proposals (follows s n x) (follows (joined s t) n x)) (step-checks (s .session .radius)) (then (offer n (s .lent .point)) step) no-proposal (λ far.
+      then-elim (λ (x : Answer Offer). Proposals (follows s n x) (follows (joined s t) n x)) (offer n (s .lent .point)) step no-proposal (λ m e.
+      unless-elim (λ (x : Answer Offer). Proposals (follows s n x) (follows (joined s t) n x)) (offer-checks (offered n (s .lent .point) m)) (given (offered n (s .lent .point) m)) no-proposal (λ v.
+      offers n m (not-not (all-sized n (s .lent .point) (s .lent .gradient) (s .lent .hessian) (s .lent .step) (s .lent .trial) (s .lent .scratch)) (w .0)) (not-not (is-ready (s .session .phase)) (w .1 .1 .0)) e))))
+
+  -- ---- the answer with a cost looks at the trial where a cost is awaited
+  module _ (n : ℕ) (F : Float) where
+    abbrev Judgements : Answer Judgement → Answer Judgement → Type 0
+    Judgements a b = Came kernel s t (on-judgement s F a) (on-judgement (joined s t) F b)
+
+    no-judgement : (r : Refusal) → Judgements (refused r) (refused r)
+    unfolding on-judgement
+    no-judgement r = refuses r _ _ refl refl
+
+    same-answer-checks : judgement-checks (s .session) n (s .lent .point) (s .lent .trial) ≡ judgement-checks (joined s t .session) n (s .lent .point) (t .lent .trial)
+    unfolding sound
+    same-answer-checks = rw trial-size
+
+    abbrev judge-at : Station → Promise → Answer Judgement
+    judge-at x = judge (x .session) F (x .lent .point) (x .lent .trial)
+
+    came-judgement : Judgements (judgement-at s n F) (judgement-at (joined s t) n F)
+    unfolding judgement judge
+    came-judgement =
+        unless-both Judgements same-answer-checks (then (judge-at s) (promised (s .session .phase))) (then (judge-at (joined s t)) (promised (s .session .phase))) no-judgement (λ w.
+        answer-elim (λ (x : Answer Promise). Judgements (then (judge-at s) x) (then (judge-at (joined s t)) x)) (promised (s .session .phase)) no-judgement (λ p e.
+        unless-both Judgements (ap (answer-checks F) (held (promise-held (s .session .phase) p e) .1)) _ _ no-judgement (λ u.
+        unless-both Judgements {cs = verdict-checks (radius-by (s .session) (rho (s .session .cost) F (p .model)) (p .norm))} refl _ _ no-judgement (λ v.
+        judges F p e (not-not (sound (s .session)) (w .1 .0))))))
+
+  -- ---- the answer with derivatives looks at none of it
+  module _ (n : ℕ) (g H : List Float) where
+    abbrev Renewals : Answer Renewal → Answer Renewal → Type 0
+    Renewals a b = Came kernel s t (on-renewal s a) (on-renewal (joined s t) b)
+
+    no-renewal : (r : Refusal) → Renewals (refused r) (refused r)
+    unfolding on-renewal
+    no-renewal r = refuses r _ _ refl refl
+
+    came-renewal : Renewals (renewal-at s n g H) (renewal-at (joined s t) n g H)
+    unfolding renewal sound
+    came-renewal =
+        unless-both Renewals {cs = renewal-checks (s .session) n g H (s .lent .gradient) (s .lent .hessian)} refl (given (renewed-by (s .session) g H)) (given (renewed-by (joined s t .session) g H)) no-renewal (λ w. renews g H)
+
+  pub comes : (q : Request) → Came kernel s t (respond kernel q s) (respond kernel q (joined s t))
+  unfolding respond
+  comes (propose n) = came-proposal n
+  comes (cost n F) = came-judgement n F
+  comes (derivatives n g H) = came-renewal n g H
+
+-- and on one
+pub alone : (kernel : Settings → Kernel) (q : Request) (s : Station) → Came kernel s s (respond kernel q s) (respond kernel q s)
+alone kernel q s = comes kernel s s refl (λ w. (refl, refl)) q

@@ -1,46 +1,54 @@
--- The calls of a run are the calls of the code: each meets the predicate that the code's contract states, which has one result (crates/unique). Assumes nothing.
-use mathlib.Core.Path.{refl}
+-- The calls of a run are the calls of the code: whatever meets the predicate that a contract of the code states, at a station, is what the run has there. Assumes nothing.
+use mathlib.Core.Path.{_≡_, refl, _∙_}
 use mathlib.Core.List.{List}
 use Prim.Native.Nat.{ℕ}
 use lib.Ieee.{Float}
 use Rattle.vectors.specs.Refusal.{Answer, refused, given}
 use Rattle.kernels.specs.Kernel.{Kernel}
+use Rattle.offer.specs.Run.{Does}
+use Rattle.offer.proofs.Runs.{does}
 use Rattle.trustregion.specs.Session.{Proposal, Judgement, Renewal}
-use Rattle.trustregion.specs.Calls.{Proposes, Judges, Renews}
-use Rattle.trustregion.specs.Run.{Station, propose, cost, derivatives, outcome, Done, on-proposal, on-judgement, on-renewal, proposal-at, judgement-at, renewal-at, respond}
+use Rattle.trustregion.specs.Calls.{after-proposal, after-judgement, after-renewal, Proposes, Judges, Renews}
+use Rattle.trustregion.specs.Run.{Station, propose, cost, derivatives, outcome, on-proposal, on-judgement, on-renewal, proposal-at, judgement-at, renewal-at, respond}
 use Rattle.trustregion.specs.declared.settings.Settings.{Settings}
 use Rattle.trustregion.specs.declared.session.After.{After}
 
--- what the code returns where a run has d
-abbrev pub returns : Done → After
-returns d = record { session = d .after .session; outcome = outcome (d .reply) }
+-- what the code returns, by the answer
+module _ (s : Station) where
+  says-judgement : (F : Float) (a : Answer Judgement) → after-judgement a (s .session) ≡ record { session = on-judgement s F a .after .session; outcome = outcome (on-judgement s F a .reply) }
+  unfolding on-judgement
+  says-judgement F (refused r) = refl
+  says-judgement F (given x) = refl
 
+  says-proposal : (a : Answer Proposal) → after-proposal a (s .session) ≡ record { session = on-proposal s a .after .session; outcome = outcome (on-proposal s a .reply) }
+  unfolding on-proposal
+  says-proposal (refused r) = refl
+  says-proposal (given x) = refl
+
+  says-renewal : (a : Answer Renewal) → after-renewal a (s .session) ≡ record { session = on-renewal s a .after .session; outcome = outcome (on-renewal s a .reply) }
+  unfolding on-renewal
+  says-renewal (refused r) = refl
+  says-renewal (given x) = refl
+
+-- and so what it does
 module _ (kernel : Settings → Kernel) (s : Station) (n : ℕ) where
-  pub run-proposes :
-      let d = respond kernel (propose n) s in
-      Proposes (proposal-at kernel s n) (s .session) (s .lent .step) (s .lent .trial) (s .lent .scratch) (returns d) (d .after .lent .step) (d .after .lent .trial) (d .after .lent .scratch)
-  unfolding respond on-proposal
-  run-proposes = go (proposal-at kernel s n)
-    where
-      go : (a : Answer Proposal) → let d = on-proposal s a in
-          Proposes a (s .session) (s .lent .step) (s .lent .trial) (s .lent .scratch) (returns d) (d .after .lent .step) (d .after .lent .trial) (d .after .lent .scratch)
-      go (refused r) = record { says = refl; leaves-step = refl; leaves-trial = refl; leaves-scratch = refl }
-      go (given p) = record { says = refl; leaves-step = refl; leaves-trial = refl; leaves-scratch = refl }
-
-  pub run-judges : (F : Float) → let d = respond kernel (cost n F) s in Judges (judgement-at s n F) (s .session) (s .lent .point) (returns d) (d .after .lent .point)
+  pub run-judges : (F : Float) (r : After) (point : List Float) → Judges (judgement-at s n F) (s .session) (s .lent .point) r point
+      → Does outcome (respond kernel (cost n F) s) (r .outcome) (r .session) (record { point = point; gradient = s .lent .gradient; hessian = s .lent .hessian; step = s .lent .step; trial = s .lent .trial; scratch = s .lent .scratch })
   unfolding respond on-judgement
-  run-judges F = go (judgement-at s n F)
-    where
-      go : (a : Answer Judgement) → let d = on-judgement s F a in Judges a (s .session) (s .lent .point) (returns d) (d .after .lent .point)
-      go (refused r) = record { says = refl; leaves-point = refl }
-      go (given j) = record { says = refl; leaves-point = refl }
+  run-judges F r point p =
+      let e = p .says ∙ says-judgement s F (judgement-at s n F) in
+      does outcome _ (λ i. e i .outcome) (λ i. e i .session) (λ i. record { point = p .leaves-point i; gradient = s .lent .gradient; hessian = s .lent .hessian; step = s .lent .step; trial = s .lent .trial; scratch = s .lent .scratch })
 
-  pub run-renews : (g H : List Float) →
-      let d = respond kernel (derivatives n g H) s in
-      Renews (renewal-at s n g H) (s .session) (s .lent .gradient) (s .lent .hessian) (returns d) (d .after .lent .gradient) (d .after .lent .hessian)
+  pub run-renews : (g H : List Float) (r : After) (gradient hessian : List Float) → Renews (renewal-at s n g H) (s .session) (s .lent .gradient) (s .lent .hessian) r gradient hessian
+      → Does outcome (respond kernel (derivatives n g H) s) (r .outcome) (r .session) (record { point = s .lent .point; gradient = gradient; hessian = hessian; step = s .lent .step; trial = s .lent .trial; scratch = s .lent .scratch })
   unfolding respond on-renewal
-  run-renews g H = go (renewal-at s n g H)
-    where
-      go : (a : Answer Renewal) → let d = on-renewal s a in Renews a (s .session) (s .lent .gradient) (s .lent .hessian) (returns d) (d .after .lent .gradient) (d .after .lent .hessian)
-      go (refused r) = record { says = refl; leaves-gradient = refl; leaves-hessian = refl }
-      go (given x) = record { says = refl; leaves-gradient = refl; leaves-hessian = refl }
+  run-renews g H r gradient hessian p =
+      let e = p .says ∙ says-renewal s (renewal-at s n g H) in
+      does outcome _ (λ i. e i .outcome) (λ i. e i .session) (λ i. record { point = s .lent .point; gradient = p .leaves-gradient i; hessian = p .leaves-hessian i; step = s .lent .step; trial = s .lent .trial; scratch = s .lent .scratch })
+
+  pub run-proposes : (r : After) (step trial scratch : List Float) → Proposes (proposal-at kernel s n) (s .session) (s .lent .step) (s .lent .trial) (s .lent .scratch) r step trial scratch
+      → Does outcome (respond kernel (propose n) s) (r .outcome) (r .session) (record { point = s .lent .point; gradient = s .lent .gradient; hessian = s .lent .hessian; step = step; trial = trial; scratch = scratch })
+  unfolding respond on-proposal
+  run-proposes r step trial scratch p =
+      let e = p .says ∙ says-proposal s (proposal-at kernel s n) in
+      does outcome _ (λ i. e i .outcome) (λ i. e i .session) (λ i. record { point = s .lent .point; gradient = s .lent .gradient; hessian = s .lent .hessian; step = p .leaves-step i; trial = p .leaves-trial i; scratch = p .leaves-scratch i })

@@ -10,7 +10,8 @@ use Rattle.vectors.specs.Refusal.{Answer, refused, given, number, room}
 use Rattle.kernels.specs.Choice as Choice
 use Rattle.trustregion.specs.Settings.{by-default, chosen}
 use Rattle.trustregion.specs.Session.{proposal, next-radius, judgement}
-use Rattle.trustregion.specs.Run.{Station, Request, propose, cost, derivatives, own, others, Call, respond, run, final, calls, lent-same, strike, Trial, trials}
+use Rattle.offer.specs.Run.{own, others, run, final, calls, lent-same}
+use Rattle.trustregion.specs.Run.{Station, Request, propose, cost, derivatives, Call, respond, strike, Trial, trials}
 use Rattle.trustregion.specs.declared.session.Session.{Session}
 use Rattle.trustregion.specs.declared.session.Phase.{Phase}
 use Rattle.trustregion.specs.declared.session.Phase.the-variants.{Ready, AwaitingCost, AwaitingDerivatives}
@@ -67,13 +68,13 @@ same-numbers (x ∷ xs) (y ∷ ys) = eq x y && same-numbers xs ys
 
 -- the radius and the point at the end
 abbrev pub Ends : List Call → List Float → Type 0
-Ends cs wanted = same-numbers (final chosen station cs .session .radius ∷ final chosen station cs .lent .point) wanted ≡ true
+Ends cs wanted = same-numbers (final (respond chosen) station cs .session .radius ∷ final (respond chosen) station cs .lent .point) wanted ≡ true
 
 -- What is left is the second trial, and both runs end alike.
 pub record Struck : Type 0 where
-  pub lent : lent-same (run chosen station script) ≡ true
-  pub left : calls (strike (run chosen station script)) ≡ second-trial
-  pub ratios : map (λ (t : Trial). t .ratio) (trials (run chosen station script)) ≡ nan ∷ one ∷ []
+  pub lent : lent-same (run (respond chosen) station script) ≡ true
+  pub left : calls (strike (run (respond chosen) station script)) ≡ second-trial
+  pub ratios : map (λ (t : Trial). t .ratio) (trials (run (respond chosen) station script)) ≡ nan ∷ one ∷ []
   pub whole-ends : Ends script ((5 over 1) ∷ neg (1 over 2) ∷ neg one ∷ [])
   pub left-ends : Ends second-trial ((5 over 1) ∷ neg (1 over 2) ∷ neg one ∷ [])
 

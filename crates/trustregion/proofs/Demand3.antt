@@ -10,14 +10,16 @@ use Rattle.kernels.specs.Kernel.{Kernel, Proper}
 use Rattle.kernels.proofs.Choices.{kernel-proper}
 use Rattle.trustregion.specs.Settings.{chosen}
 use Rattle.trustregion.specs.Session.{awaits-cost, start-checks, start}
-use Rattle.trustregion.specs.Run.{Station, Call, Trial, Entry, run, final, calls, lent-same, strike, Thinned}
+use Rattle.offer.specs.Run.{run, final, calls, lent-same, Thinned}
+use Rattle.trustregion.specs.Run.{Station, Call, Trial, Entry, respond, strike}
 use Rattle.trustregion.specs.Demand3.{Fair, Within, Same-run, Demand-3}
 use Rattle.trustregion.specs.declared.settings.Settings.{Settings}
 use Rattle.trustregion.specs.declared.session.Session.{Session}
-use Rattle.trustregion.specs.declared.session.Phase.the-variants.{Ready}
 use Rattle.offer.proofs.Checks.{unless-elim, clash}
-use Rattle.trustregion.proofs.Alike.{Alike, alike-refl, alike-trans}
-use Rattle.trustregion.proofs.Replay.{Replays, strike-replays, thinned-replays, strike-lent}
+use Rattle.offer.proofs.Runs.{Replays, thinned-replays}
+use Rattle.trustregion.proofs.Answers.{joined}
+use Rattle.trustregion.proofs.Alike.{Alike, alike-refl, alike-trans, refused-keeps, follow}
+use Rattle.trustregion.proofs.Replay.{strike-replays, strike-lent}
 use Rattle.trustregion.proofs.Trials.{strike-seen, thinned-trials}
 use Rattle.trustregion.proofs.Fair.{run-sound}
 
@@ -27,28 +29,29 @@ All-proper kernel = (t : Settings) (n : ℕ) (radius : Float) (g H : List Float)
 
 module _ (kernel : Settings → Kernel) (proper : All-proper kernel) where
   struck : (start : Station) → T (not (awaits-cost (start .session .phase)))
-      → (whole : List Call) → T (lent-same (run kernel start whole))
-      → (kept : List Entry) → Thinned (strike (run kernel start whole)) kept
+      → (whole : List Call) → T (lent-same (run (respond kernel) start whole))
+      → (kept : List Entry) → Thinned (strike (run (respond kernel) start whole)) kept
       → Same-run kernel start whole kept
   struck start idle whole lent kept thin =
-      let left : List Entry = strike (run kernel start whole) in
-      let a : Replays kernel start whole start left = strike-replays kernel proper whole false start start lent (alike-refl start) in
-      let b : Replays kernel start (calls left) start kept =
-      thinned-replays kernel (calls left) start start kept
-      (subst (λ (es : List Entry). T (lent-same es)) (sym (a .replies)) (strike-lent false (run kernel start whole) lent))
+      let left : List Entry = strike (run (respond kernel) start whole) in
+      let a : Replays (respond kernel) Alike start whole start left = strike-replays kernel proper whole false start start lent (alike-refl start) in
+      let b : Replays (respond kernel) Alike start (calls left) start kept =
+      thinned-replays (respond kernel) Alike (follow kernel) (λ c s t w a. alike-trans _ s t (refused-keeps kernel c s w) a) (calls left) start start kept
+      (subst (λ (es : List Entry). T (lent-same es)) (sym (a .replies)) (strike-lent false (run (respond kernel) start whole) lent))
       (subst (λ (es : List Entry). Thinned es kept) (sym (a .replies)) thin)
       (alike-refl start) in
-      let e : Alike (final kernel start whole) (final kernel start (calls kept)) =
-      alike-trans (final kernel start whole) (final kernel start (calls left)) (final kernel start (calls kept)) (a .ends) (b .ends) in
+      let e : Alike (final (respond kernel) start whole) (final (respond kernel) start (calls kept)) =
+      alike-trans (final (respond kernel) start whole) (final (respond kernel) start (calls left)) (final (respond kernel) start (calls kept)) (a .ends) (b .ends) in
+      let ends : final (respond kernel) start (calls kept) ≡ joined (final (respond kernel) start whole) (final (respond kernel) start (calls kept)) = sym (e .same) in
       record {
         replies = b .replies;
         kept-trials = thinned-trials thin ∙ strike-seen kernel whole false start (λ w. absurd (T-not (awaits-cost (start .session .phase)) idle w));
-        phase = sym (e .phase);
-        radius = sym (e .radius);
-        point = sym (e .point);
-        cost = sym (e .cost);
-        gradient = sym (e .gradient);
-        hessian = sym (e .hessian);
+        phase = λ i. ends i .session .phase;
+        radius = λ i. ends i .session .radius;
+        point = λ i. ends i .lent .point;
+        cost = λ i. ends i .session .cost;
+        gradient = λ i. ends i .lent .gradient;
+        hessian = λ i. ends i .lent .hessian;
       }
 
   pub for-proper : Demand-3 kernel
@@ -61,13 +64,13 @@ module _ (kernel : Settings → Kernel) (proper : All-proper kernel) where
 -- a session that was started is not inside a trial
 pub started-idle : (t : Settings) (f : Float) (s : Session) → start t f ≡ given s → T (not (awaits-cost (s .phase)))
 unfolding start
-started-idle t f s = unless-elim (λ (a : Answer Session). a ≡ given s → T (not (awaits-cost (s .phase)))) (start-checks t f) (given (begun t f)) (λ r e. absurd (clash e)) (λ w e. rw (same e) tt)
+started-idle t f s = unless-elim (λ (a : Answer Session). a ≡ given s → T (not (awaits-cost (s .phase)))) (start-checks t f) _ (λ r e. absurd (clash e)) (λ w e. idle e tt)
   where
-    begun : Settings → Float → Session
-    begun t f = record { settings = t; radius = t .radius; cost = f; phase = Ready }
-
-    same : {x y : Session} → given x ≡ given y → y ≡ x
+    same : {x : Session} → given x ≡ given s → x ≡ s
     same e = cc
+
+    idle : {x : Session} → given x ≡ given s → T (not (awaits-cost (x .phase))) → T (not (awaits-cost (s .phase)))
+    idle e = subst (λ (x : Session). T (not (awaits-cost (x .phase)))) (same e)
 
 pub for-our-kernels : Demand-3 chosen
 for-our-kernels = for-proper chosen (λ t. kernel-proper (t .choice))

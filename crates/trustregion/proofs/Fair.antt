@@ -10,18 +10,20 @@ use Rattle.float.specs.Constants.{nought, two, quarter, three-quarters, ten-eps
 use Rattle.float.proofs.Order.{lt-real, le-lt-trans}
 use Rattle.float.proofs.Signs.{sub-above, div-above, smaller-le}
 use Rattle.float.proofs.Quarter.{quarter-within}
-use Rattle.vectors.specs.Refusal.{given}
+use Rattle.vectors.specs.Refusal.{refused, given}
 use Rattle.vectors.proofs.Sizes.{both, each-holds}
 use Rattle.kernels.specs.Kernel.{Kernel, positive}
 use Rattle.trustregion.specs.Settings.{ranges, in-range}
 use Rattle.offer.specs.Offer.{steady}
 use Rattle.trustregion.specs.Session.{sound, Promise, awaiting, rho, next-radius, settled}
-use Rattle.trustregion.specs.Run.{Station, Lending, own, others, Call, Trial, Reply, refusal, proposed, judged, renewed, Done, on-proposal, on-judgement, on-renewal, lending-it, perform-by, perform, run, add-trial, trials, Every}
+use Rattle.offer.specs.Run.{perform, run, Every}
+use Rattle.trustregion.specs.Run.{Station, Call, Trial, proposed, judged, renewed, Reply, Done, Entry, on-proposal, on-judgement, on-renewal, respond, trials}
 use Rattle.trustregion.specs.Demand3.{Fair, Within}
 use Rattle.trustregion.specs.declared.settings.Settings.{Settings}
 use Rattle.trustregion.specs.declared.session.Session.{Session}
 use Rattle.offer.proofs.Checks.{cond-elim}
-use Rattle.trustregion.proofs.Answers.{Came, refuses, offers, judges, renews, comes}
+use Rattle.offer.proofs.Runs.{perform-elim, run-keeps}
+use Rattle.trustregion.proofs.Answers.{Came, refuses, offers, judges, renews, alone}
 
 true-is : (b : Bool) → b ≡ true → T b
 true-is true e = tt
@@ -64,10 +66,10 @@ pub record Sound-trial (t : Settings) (x : Trial) : Type 0 where
 
 -- a call keeps the settings, and what it tells is sound
 abbrev Tells : Settings → Reply → Type 0
-Tells t (refusal r) = Unit {0}
-Tells t (proposed p x k) = Unit {0}
-Tells t (judged x) = Sound-trial t x
-Tells t renewed = Unit {0}
+Tells t (refused r) = Unit {0}
+Tells t (given (proposed p x k)) = Unit {0}
+Tells t (given (judged x)) = Sound-trial t x
+Tells t (given renewed) = Unit {0}
 
 record Good (t : Settings) (d : Done) : Type 0 where
   keeps : d .after .session .settings ≡ t
@@ -76,42 +78,42 @@ record Good (t : Settings) (d : Done) : Type 0 where
 same-promise : {p q : Promise} → given p ≡ given q → p ≡ q
 same-promise e = cc
 
-came-good : (kernel : Settings → Kernel) (s : Station) (d : Done) → Came kernel s d → Good (s .session .settings) d
+came-good : (kernel : Settings → Kernel) (s t : Station) (d e : Done) → Came kernel s t d e → Good (s .session .settings) d
 unfolding on-proposal on-judgement on-renewal awaiting settled
-came-good kernel s d (refuses r scratch l) = record { keeps = refl; tells = tt }
-came-good kernel s d (offers n m z t e) = record { keeps = refl; tells = tt }
-came-good kernel s d (judges F p e t) = record {
+came-good kernel s t d e (refuses r w v l m) = record { keeps = refl; tells = tt }
+came-good kernel s t d e (offers n m z u i) = record { keeps = refl; tells = tt }
+came-good kernel s t d e (judges F p o u) = record {
   keeps = refl;
   tells = record {
     fair = record {
       above-eta = λ a. true-is _ a;
-      falls = λ a q i fall. accepted-falls (s .session .settings .eta) (s .session .cost) F (p .model) (bounds (s .session) t .eta) (true-is _ a) (rw (same-promise (sym e ∙ i)) fall);
+      falls = λ a q i fall. accepted-falls (s .session .settings .eta) (s .session .cost) F (p .model) (bounds (s .session) u .eta) (true-is _ a) (rw (same-promise (sym o ∙ i)) fall);
     };
-    within = λ q i f h k. let o : p ≡ q = same-promise (sym e ∙ i) in
-        next-within (rho (s .session .cost) F (p .model)) (p .norm) (s .session .radius) (s .session .settings .«max_radius») (rw o f) (bounds (s .session) t .max-radius) h (rw o k);
+    within = λ q i f h k. let same : p ≡ q = same-promise (sym o ∙ i) in
+        next-within (rho (s .session .cost) F (p .model)) (p .norm) (s .session .radius) (s .session .settings .«max_radius») (rw same f) (bounds (s .session) u .max-radius) h (rw same k);
   };
 }
-came-good kernel s d (renews g H) = record { keeps = refl; tells = tt }
+came-good kernel s t d e (renews g H) = record { keeps = refl; tells = tt }
 
-call-good : (kernel : Settings → Kernel) (c : Call) (s : Station) → Good (s .session .settings) (perform kernel c s)
-call-good kernel c s = go (c .lending)
-  where
-    go : (l : Lending) → Good (s .session .settings) (perform-by kernel l (c .request) s)
-    go own = came-good kernel s _ (comes kernel (c .request) s)
-    go (others v) = let g = came-good kernel (lending-it v s) _ (comes kernel (c .request) (lending-it v s)) in record { keeps = g .keeps; tells = g .tells }
+call-good : (kernel : Settings → Kernel) (c : Call) (s : Station) → Good (s .session .settings) (perform (respond kernel) c s)
+call-good kernel = perform-elim (respond kernel) (λ (s : Station) (d : Done). Good (s .session .settings) d) (λ v s d g. record { keeps = g .keeps; tells = g .tells }) (λ q s. came-good kernel s s _ _ (alone kernel q s))
 
 -- ---- a run
 
-add-every : (P : Trial → Type 0) (t : Settings) (r : Reply) (ts : List Trial) → ((x : Trial) → Sound-trial t x → P x) → Tells t r → Every P ts → Every P (add-trial r ts)
-add-every P t (refusal r) ts f w h = h
-add-every P t (proposed p x k) ts f w h = h
-add-every P t (judged x) ts f w h = (f x w, h)
-add-every P t renewed ts f w h = h
+module _ (P : Trial → Type 0) (t : Settings) (f : (x : Trial) → Sound-trial t x → P x) where
+  trials-are : (es : List Entry) → Every (λ (e : Entry). Tells t (e .reply)) es → Every P (trials es)
+  trials-are [] w = tt
+  trials-are (e ∷ es) w = go (e .reply) (w .0) (trials-are es (w .1))
+    where
+      go : (r : Reply) → Tells t r → Every P (trials es) → Every P (trials (record { call = e .call; reply = r } ∷ es))
+      go (refused r) w h = h
+      go (given (proposed p x k)) w h = h
+      go (given (judged x)) w h = (f x w, h)
+      go (given renewed) w h = h
 
 pub run-sound : (kernel : Settings → Kernel) (P : Settings → Trial → Type 0) → ((t : Settings) (x : Trial) → Sound-trial t x → P t x)
-    → (cs : List Call) (s : Station) → Every (P (s .session .settings)) (trials (run kernel s cs))
-run-sound kernel P f [] s = tt
-run-sound kernel P f (c ∷ cs) s =
-    let g = call-good kernel c s in
-    add-every (P (s .session .settings)) (s .session .settings) (perform kernel c s .reply) (trials (run kernel (perform kernel c s .after) cs)) (f (s .session .settings)) (g .tells)
-    (subst (λ (t : Settings). Every (P t) (trials (run kernel (perform kernel c s .after) cs))) (g .keeps) (run-sound kernel P f cs (perform kernel c s .after)))
+    → (cs : List Call) (s : Station) → Every (P (s .session .settings)) (trials (run (respond kernel) s cs))
+run-sound kernel P f cs s =
+    let t = s .session .settings in
+    trials-are (P t) t (f t) (run (respond kernel) s cs)
+    (run-keeps (respond kernel) (λ (x : Station). x .session .settings ≡ t) (Tells t) (λ c x e. let g = call-good kernel c x in (g .keeps ∙ e, subst (λ (u : Settings). Tells u (perform (respond kernel) c x .reply)) e (g .tells))) cs s refl .1)

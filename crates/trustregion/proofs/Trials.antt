@@ -5,14 +5,17 @@ use mathlib.Core.List.{List, [], _∷_}
 use lib.Dec.{T}
 use lib.Ieee.{isNan, lt}
 use lib.Ieee.Fits.{and-l, and-r}
+use Rattle.vectors.specs.Refusal.{refused, given}
 use Rattle.kernels.specs.Kernel.{Kernel}
 use Rattle.trustregion.specs.Session.{awaits-cost, rho, settled}
-use Rattle.trustregion.specs.Run.{Station, Lending, own, others, Call, Trial, Reply, refusal, proposed, judged, renewed, Done, on-proposal, on-judgement, on-renewal, lending-it, Entry, perform-by, perform, run, was-refused, opens-trial, took-cost, took-nan, nan-comes, strike-from, add-trial, trials, seen, Thinned, none, keep, drop}
+use Rattle.offer.specs.Run.{perform, run, was-refused, Thinned, none, keep, drop}
+use Rattle.offer.proofs.Runs.{perform-elim}
+use Rattle.trustregion.specs.Run.{Station, Call, Trial, proposed, judged, renewed, Reply, Done, Entry, on-proposal, on-judgement, on-renewal, respond, opens-trial, took-cost, took-nan, nan-comes, strike-from, add-trial, trials, seen}
 use Rattle.trustregion.specs.declared.settings.Settings.{Settings}
 use Rattle.trustregion.specs.declared.session.Phase.{Phase}
 use Rattle.trustregion.specs.declared.session.Phase.the-variants.{Ready, AwaitingDerivatives}
-use Rattle.trustregion.proofs.Answers.{Came, refuses, offers, judges, renews, comes}
-use Rattle.trustregion.proofs.Alike.{Alike, refused-keeps, promise-held}
+use Rattle.trustregion.proofs.Answers.{promise-held, Came, refuses, offers, judges, renews, alone}
+use Rattle.trustregion.proofs.Alike.{Alike, same-phase, refused-keeps}
 
 -- ---- how a reply and the phases before and after it go together
 
@@ -22,31 +25,27 @@ record Turns (before : Phase) (r : Reply) (after : Phase) : Type 0 where
   -- after an answer that was taken no cost is awaited
   closes : T (not (was-refused r)) → T (not (opens-trial r)) → T (awaits-cost after) → ⊥
 
-came-turns : (kernel : Settings → Kernel) (s : Station) (d : Done) → Came kernel s d → Turns (s .session .phase) (d .reply) (d .after .session .phase)
+came-turns : (kernel : Settings → Kernel) (s t : Station) (d e : Done) → Came kernel s t d e → Turns (s .session .phase) (d .reply) (d .after .session .phase)
 unfolding on-proposal on-judgement on-renewal settled
-came-turns kernel s d (refuses r scratch l) = record { awaited = λ w. absurd w; closes = λ w. absurd w }
-came-turns kernel s d (offers n m z t e) = record { awaited = λ w. absurd w; closes = λ w v. absurd v }
-came-turns kernel s d (judges F p e t) = record { awaited = λ w. promise-held (s .session .phase) p e; closes = λ w v. go (lt (s .session .settings .eta) (rho (s .session .cost) F (p .model))) }
+came-turns kernel s t d e (refuses r w v l m) = record { awaited = λ w. absurd w; closes = λ w. absurd w }
+came-turns kernel s t d e (offers n m z u i) = record { awaited = λ w. absurd w; closes = λ w v. absurd v }
+came-turns kernel s t d e (judges F p i u) = record { awaited = λ w. promise-held (s .session .phase) p i; closes = λ w v. go (lt (s .session .settings .eta) (rho (s .session .cost) F (p .model))) }
   where
     go : (b : Bool) → T (awaits-cost (cond b AwaitingDerivatives Ready)) → ⊥
     go true w = w
     go false w = w
-came-turns kernel s d (renews g H) = record { awaited = λ w. absurd w; closes = λ w v u. u }
+came-turns kernel s t d e (renews g H) = record { awaited = λ w. absurd w; closes = λ w v u. u }
 
-turns : (kernel : Settings → Kernel) (c : Call) (s : Station) → Turns (s .session .phase) (perform kernel c s .reply) (perform kernel c s .after .session .phase)
-turns kernel c s = go (c .lending)
-  where
-    go : (l : Lending) → Turns (s .session .phase) (perform-by kernel l (c .request) s .reply) (perform-by kernel l (c .request) s .after .session .phase)
-    go own = came-turns kernel s _ (comes kernel (c .request) s)
-    go (others v) = came-turns kernel (lending-it v s) _ (comes kernel (c .request) (lending-it v s))
+turns : (kernel : Settings → Kernel) (c : Call) (s : Station) → Turns (s .session .phase) (perform (respond kernel) c s .reply) (perform (respond kernel) c s .after .session .phase)
+turns kernel = perform-elim (respond kernel) (λ (s : Station) (d : Done). Turns (s .session .phase) (d .reply) (d .after .session .phase)) (λ v s d h. h) (λ q s. came-turns kernel s s _ _ (alone kernel q s))
 
 -- ---- what a reply adds to the trials
 
 add-seen : (r : Reply) (ts us : List Trial) → T (not (took-nan r)) → ts ≡ seen us → add-trial r ts ≡ seen (add-trial r us)
-add-seen (refusal k) ts us w e = e
-add-seen (proposed p x k) ts us w e = e
-add-seen renewed ts us w e = e
-add-seen (judged t) ts us w e = go (isNan (t .cost)) w
+add-seen (refused k) ts us w e = e
+add-seen (given (proposed p x k)) ts us w e = e
+add-seen (given renewed) ts us w e = e
+add-seen (given (judged t)) ts us w e = go (isNan (t .cost)) w
   where
     go : (b : Bool) → T (not b) → t ∷ ts ≡ cond b (seen us) (t ∷ seen us)
     go true v = absurd v
@@ -54,10 +53,10 @@ add-seen (judged t) ts us w e = go (isNan (t .cost)) w
 
 -- a struck reply is no trial, or one answered with NaN
 skip-seen : (r : Reply) (ts us : List Trial) → (T (took-cost r) → T (took-nan r)) → ts ≡ seen us → ts ≡ seen (add-trial r us)
-skip-seen (refusal k) ts us w e = e
-skip-seen (proposed p x k) ts us w e = e
-skip-seen renewed ts us w e = e
-skip-seen (judged t) ts us w e = go (isNan (t .cost)) (w tt)
+skip-seen (refused k) ts us w e = e
+skip-seen (given (proposed p x k)) ts us w e = e
+skip-seen (given renewed) ts us w e = e
+skip-seen (given (judged t)) ts us w e = go (isNan (t .cost)) (w tt)
   where
     go : (b : Bool) → T b → ts ≡ cond b (seen us) (t ∷ seen us)
     go true v = e
@@ -65,73 +64,73 @@ skip-seen (judged t) ts us w e = go (isNan (t .cost)) (w tt)
 
 -- the kinds of reply shut each other out
 refused-no-cost : (r : Reply) → T (was-refused r) → T (took-cost r) → T (took-nan r)
-refused-no-cost (refusal k) w v = absurd v
-refused-no-cost (proposed p x k) w v = absurd v
-refused-no-cost (judged t) w v = absurd w
-refused-no-cost renewed w v = absurd v
+refused-no-cost (refused k) w v = absurd v
+refused-no-cost (given (proposed p x k)) w v = absurd v
+refused-no-cost (given (judged t)) w v = absurd w
+refused-no-cost (given renewed) w v = absurd v
 
 opens-no-cost : (r : Reply) → T (opens-trial r) → T (took-cost r) → T (took-nan r)
-opens-no-cost (refusal k) w v = absurd v
-opens-no-cost (proposed p x k) w v = absurd v
-opens-no-cost (judged t) w v = absurd w
-opens-no-cost renewed w v = absurd v
+opens-no-cost (refused k) w v = absurd v
+opens-no-cost (given (proposed p x k)) w v = absurd v
+opens-no-cost (given (judged t)) w v = absurd w
+opens-no-cost (given renewed) w v = absurd v
 
 nan-no-opening : (r : Reply) → T (took-nan r) → T (not (opens-trial r))
-nan-no-opening (refusal k) w = tt
-nan-no-opening (proposed p x k) w = absurd w
-nan-no-opening (judged t) w = tt
-nan-no-opening renewed w = tt
+nan-no-opening (refused k) w = tt
+nan-no-opening (given (proposed p x k)) w = absurd w
+nan-no-opening (given (judged t)) w = tt
+nan-no-opening (given renewed) w = tt
 
 module _ (kernel : Settings → Kernel) where
   -- outside a struck trial, an awaited cost is none of NaN; inside it is
   abbrev pub Clear : (inside : Bool) → Station → List Call → Type 0
-  Clear false s cs = T (awaits-cost (s .session .phase)) → T (not (nan-comes (run kernel s cs)))
-  Clear true s cs = T (nan-comes (run kernel s cs))
+  Clear false s cs = T (awaits-cost (s .session .phase)) → T (not (nan-comes (run (respond kernel) s cs)))
+  Clear true s cs = T (nan-comes (run (respond kernel) s cs))
 
   module _ (c : Call) (s : Station) (cs : List Call) where
     abbrev next : Station
-    next = perform kernel c s .after
+    next = perform (respond kernel) c s .after
 
     -- a kept call took no NaN, and what comes after it is clear
-    kept-clear : Clear false s (c ∷ cs) → T (not (opens-trial (perform kernel c s .reply) && nan-comes (run kernel next cs))) → T (not (took-nan (perform kernel c s .reply))) × Clear false next cs
-    kept-clear h k = go (perform kernel c s .reply) (λ w. refused-keeps kernel c s w) (turns kernel c s) h k
+    kept-clear : Clear false s (c ∷ cs) → T (not (opens-trial (perform (respond kernel) c s .reply) && nan-comes (run (respond kernel) next cs))) → T (not (took-nan (perform (respond kernel) c s .reply))) × Clear false next cs
+    kept-clear h k = go (perform (respond kernel) c s .reply) (λ w. refused-keeps kernel c s w) (turns kernel c s) h k
       where
         go : (r : Reply) → (T (was-refused r) → Alike next s) → Turns (s .session .phase) r (next .session .phase)
-            → (T (awaits-cost (s .session .phase)) → T (not (cond (was-refused r) (nan-comes (run kernel next cs)) (took-nan r))))
-            → T (not (opens-trial r && nan-comes (run kernel next cs)))
+            → (T (awaits-cost (s .session .phase)) → T (not (cond (was-refused r) (nan-comes (run (respond kernel) next cs)) (took-nan r))))
+            → T (not (opens-trial r && nan-comes (run (respond kernel) next cs)))
             → T (not (took-nan r)) × Clear false next cs
-        go (refusal x) a b h k = (tt, λ w. h (subst (λ (y : Phase). T (awaits-cost y)) (a tt .phase) w))
-        go (proposed p x y) a b h k = (tt, λ w. k)
-        go (judged t) a b h k = (h (b .awaited tt), λ w. absurd (b .closes tt tt w))
-        go renewed a b h k = (tt, λ w. absurd (b .closes tt tt w))
+        go (refused x) a b h k = (tt, λ w. h (subst (λ (y : Phase). T (awaits-cost y)) (same-phase (a tt)) w))
+        go (given (proposed p x y)) a b h k = (tt, λ w. k)
+        go (given (judged t)) a b h k = (h (b .awaited tt), λ w. absurd (b .closes tt tt w))
+        go (given renewed) a b h k = (tt, λ w. absurd (b .closes tt tt w))
 
   -- what the induction shows of the calls cs
   abbrev Kept : List Call → Type 0
-  Kept cs = (inside : Bool) (s : Station) → Clear inside s cs → trials (strike-from inside (run kernel s cs)) ≡ seen (trials (run kernel s cs))
+  Kept cs = (inside : Bool) (s : Station) → Clear inside s cs → trials (strike-from inside (run (respond kernel) s cs)) ≡ seen (trials (run (respond kernel) s cs))
 
   one-more : (c : Call) (cs : List Call) → Kept cs → Kept (c ∷ cs)
   one-more c cs ih inside s h = at inside h
     where
       reply : Reply
-      reply = perform kernel c s .reply
+      reply = perform (respond kernel) c s .reply
 
       after : Station
-      after = perform kernel c s .after
+      after = perform (respond kernel) c s .after
 
       later : Bool
-      later = nan-comes (run kernel after cs)
+      later = nan-comes (run (respond kernel) after cs)
 
       within : (b : Bool) → (T b → T (was-refused reply)) → (T (not b) → T (not (was-refused reply))) → T (cond b later (took-nan reply))
-          → trials (strike-from b (run kernel after cs)) ≡ seen (add-trial reply (trials (run kernel after cs)))
+          → trials (strike-from b (run (respond kernel) after cs)) ≡ seen (add-trial reply (trials (run (respond kernel) after cs)))
       within true k l w = skip-seen reply _ _ (refused-no-cost reply (k tt)) (ih true after w)
       within false k l w = skip-seen reply _ _ (λ v. w) (ih false after (λ v. absurd (turns kernel c s .closes (l tt) (nan-no-opening reply w) v)))
 
       outside : (b : Bool) → (T b → T (opens-trial reply && later)) → (T (not b) → T (not (opens-trial reply && later))) → Clear false s (c ∷ cs)
-          → trials (cond b (strike-from true (run kernel after cs)) (record { call = c; reply = reply } ∷ strike-from false (run kernel after cs))) ≡ seen (add-trial reply (trials (run kernel after cs)))
+          → trials (cond b (strike-from true (run (respond kernel) after cs)) (record { call = c; reply = reply } ∷ strike-from false (run (respond kernel) after cs))) ≡ seen (add-trial reply (trials (run (respond kernel) after cs)))
       outside true k l g = skip-seen reply _ _ (opens-no-cost reply (and-l (opens-trial reply) later (k tt))) (ih true after (and-r (opens-trial reply) later (k tt)))
       outside false k l g = let x = kept-clear c s cs g (l tt) in add-seen reply _ _ (x .0) (ih false after (x .1))
 
-      at : (inside : Bool) → Clear inside s (c ∷ cs) → trials (strike-from inside (run kernel s (c ∷ cs))) ≡ seen (trials (run kernel s (c ∷ cs)))
+      at : (inside : Bool) → Clear inside s (c ∷ cs) → trials (strike-from inside (run (respond kernel) s (c ∷ cs))) ≡ seen (trials (run (respond kernel) s (c ∷ cs)))
       at true g = within (was-refused reply) (λ v. v) (λ v. v) g
       at false g = outside (opens-trial reply && later) (λ v. v) (λ v. v) g
 
@@ -147,7 +146,7 @@ thinned-trials (keep e h) = ap (add-trial (e .reply)) (thinned-trials h)
 thinned-trials (drop e w h) = thinned-trials h ∙ go (e .reply) w _
   where
     go : (r : Reply) → T (was-refused r) → (ts : List Trial) → ts ≡ add-trial r ts
-    go (refusal k) w ts = refl
-    go (proposed p x k) w ts = absurd w
-    go (judged t) w ts = absurd w
-    go renewed w ts = absurd w
+    go (refused k) w ts = refl
+    go (given (proposed p x k)) w ts = absurd w
+    go (given (judged t)) w ts = absurd w
+    go (given renewed) w ts = absurd w

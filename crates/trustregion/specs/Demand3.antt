@@ -9,7 +9,8 @@ use Rattle.float.specs.Constants.{nought}
 use Rattle.vectors.specs.Refusal.{given}
 use Rattle.kernels.specs.Kernel.{Kernel}
 use Rattle.trustregion.specs.Session.{Promise, awaits-cost}
-use Rattle.trustregion.specs.Run.{Station, Call, Trial, Entry, run, final, calls, lent-same, strike, Thinned, trials, seen, Every}
+use Rattle.offer.specs.Run.{run, final, calls, lent-same, Thinned, Every}
+use Rattle.trustregion.specs.Run.{Station, Call, Trial, Entry, respond, strike, trials, seen}
 use Rattle.trustregion.specs.declared.settings.Settings.{Settings}
 
 -- "Each accepted trial has a ratio above eta; if its predicted fall is above zero, its cost is strictly below the one before." "Predicted fall is f − m."
@@ -27,24 +28,24 @@ module _ (kernel : Settings → Kernel) where
   -- The run of the calls `whole` from `start`, and "the shorter run, from the same start with the same other answers", of the calls of `kept`.
   pub record Same-run (start : Station) (whole : List Call) (kept : List Entry) : Type 0 where
     -- "gives the same proposals, ratios, verdicts and radii at the kept trials": each call is answered as it was,
-    pub replies : run kernel start (calls kept) ≡ kept
+    pub replies : run (respond kernel) start (calls kept) ≡ kept
     -- and its trials are those of the whole run that were not answered with NaN
-    pub kept-trials : trials kept ≡ seen (trials (run kernel start whole))
+    pub kept-trials : trials kept ≡ seen (trials (run (respond kernel) start whole))
     -- "and ends with the same phase, radius, point, cost, gradient and Hessian"
-    pub phase : final kernel start (calls kept) .session .phase ≡ final kernel start whole .session .phase
-    pub radius : final kernel start (calls kept) .session .radius ≡ final kernel start whole .session .radius
-    pub point : final kernel start (calls kept) .lent .point ≡ final kernel start whole .lent .point
-    pub cost : final kernel start (calls kept) .session .cost ≡ final kernel start whole .session .cost
-    pub gradient : final kernel start (calls kept) .lent .gradient ≡ final kernel start whole .lent .gradient
-    pub hessian : final kernel start (calls kept) .lent .hessian ≡ final kernel start whole .lent .hessian
+    pub phase : final (respond kernel) start (calls kept) .session .phase ≡ final (respond kernel) start whole .session .phase
+    pub radius : final (respond kernel) start (calls kept) .session .radius ≡ final (respond kernel) start whole .session .radius
+    pub point : final (respond kernel) start (calls kept) .lent .point ≡ final (respond kernel) start whole .lent .point
+    pub cost : final (respond kernel) start (calls kept) .session .cost ≡ final (respond kernel) start whole .session .cost
+    pub gradient : final (respond kernel) start (calls kept) .lent .gradient ≡ final (respond kernel) start whole .lent .gradient
+    pub hessian : final (respond kernel) start (calls kept) .lent .hessian ≡ final (respond kernel) start whole .lent .hessian
 
   pub record Demand-3 : Type 0 where
     -- "In a `TrustRegion` session that is lent the same vectors, besides the answers, at every call not refused by 1, .. strike out every trial answered with NaN, with the refused calls inside it. .. Other refused calls may be struck too."
     -- The start is any station that is not inside a trial.
     pub struck :
         (start : Station) → T (not (awaits-cost (start .session .phase)))
-        → (whole : List Call) → T (lent-same (run kernel start whole))
-        → (kept : List Entry) → Thinned (strike (run kernel start whole)) kept
+        → (whole : List Call) → T (lent-same (run (respond kernel) start whole))
+        → (kept : List Entry) → Thinned (strike (run (respond kernel) start whole)) kept
         → Same-run start whole kept
-    pub fair : (start : Station) (whole : List Call) → Every (Fair (start .session .settings .eta)) (trials (run kernel start whole))
-    pub within : (start : Station) (whole : List Call) → Every (Within (start .session .settings .«max_radius»)) (trials (run kernel start whole))
+    pub fair : (start : Station) (whole : List Call) → Every (Fair (start .session .settings .eta)) (trials (run (respond kernel) start whole))
+    pub within : (start : Station) (whole : List Call) → Every (Within (start .session .settings .«max_radius»)) (trials (run (respond kernel) start whole))

@@ -1,12 +1,12 @@
--- A run: calls on one station, with what each was answered; and the run with its NaN trials struck out. Definitions only.
-use mathlib.Core.Bool.{Bool, true, false, _&&_, _||_, cond}
+-- A run of a `TrustRegion` session, and the run with its NaN trials struck out. Definitions only. (What a run is, of either kind of session: `offer`'s specs/Run.antt.)
+use mathlib.Core.Bool.{Bool, true, false, _&&_, cond}
 use mathlib.Core.List.{List, [], _∷_}
 use Prim.Native.Nat.{ℕ}
-use lib.Dec.{T, eqb}
 use lib.Ieee.{Float, isNan}
-use Rattle.vectors.specs.Refusal.{Answer, refused, given, number, left-in, scratch-after}
+use Rattle.vectors.specs.Refusal.{Answer, refused, given, left-in}
 use Rattle.kernels.specs.Kernel.{Kernel}
-use Rattle.vectors.specs.declared.refusal.Refusal.{Refusal}
+use Rattle.offer.specs.Run as Run
+use Rattle.offer.specs.Run.{Vectors, trial-at, answered, proposing, was-refused}
 use Rattle.trustregion.specs.Session.{Promise, promised, Proposal, proposal, Judgement, judgement, Renewal, renewal}
 use Rattle.trustregion.specs.Calls.{verdict-of}
 use Rattle.trustregion.specs.declared.settings.Settings.{Settings}
@@ -14,20 +14,7 @@ use Rattle.trustregion.specs.declared.session.Session.{Session}
 use Rattle.trustregion.specs.declared.session.Outcome.{Outcome}
 use Rattle.trustregion.specs.declared.session.Outcome.the-variants.{Refused, Proposed, Taken}
 
--- ---- the station and its calls
-
-pub record Vectors : Type 0 where
-  pub point : List Float
-  pub gradient : List Float
-  pub hessian : List Float
-  pub step : List Float
-  pub trial : List Float
-  pub scratch : List Float
-
--- one session, and the vectors that it is lent: nothing touches them but the calls
-pub record Station : Type 0 where
-  pub session : Session
-  pub lent : Vectors
+-- ---- what is asked, and what is told
 
 -- Each request brings its own n, an answer its numbers.
 pub data Request : Type 0 where
@@ -35,132 +22,71 @@ pub data Request : Type 0 where
   cost : ℕ → Float → Request
   derivatives : ℕ → (gradient hessian : List Float) → Request
 
--- The vectors that a call is lent, besides the answers: the station's own, or any others.
-pub data Lending : Type 0 where
-  own : Lending
-  others : Vectors → Lending
+abbrev pub Trial : Type 0
+Trial = Run.Trial Promise
 
-pub record Call : Type 0 where
-  pub request : Request
-  pub lending : Lending
+pub data Told : Type 0 where
+  proposed : (step trial : List Float) (passes : ℕ) → Told
+  judged : Trial → Told
+  renewed : Told
 
--- ---- what a call is answered
+abbrev pub Station : Type 0
+Station = Run.Station Session
 
--- A trial, told when its cost is taken: the proposal, the cost before it, what it was promised on, the cost F, the ratio, the verdict, the radius before and afterwards.
-pub record Trial : Type 0 where
-  pub step : List Float
-  pub trial : List Float
-  pub before : Float
-  pub promise : Answer Promise
-  pub cost : Float
-  pub ratio : Float
-  pub accepted : Bool
-  pub radius-before : Float
-  pub radius : Float
+abbrev pub Call : Type 0
+Call = Run.Call Request
 
-pub data Reply : Type 0 where
-  refusal : Refusal → Reply
-  proposed : (step trial : List Float) (passes : ℕ) → Reply
-  judged : Trial → Reply
-  renewed : Reply
+abbrev pub Reply : Type 0
+Reply = Answer Told
+
+abbrev pub Done : Type 0
+Done = Run.Done Session Told
+
+abbrev pub Entry : Type 0
+Entry = Run.Entry Request Told
 
 -- the reply as a call of the code says it
 abbrev pub outcome : Reply → Outcome
-outcome (refusal r) = Refused r
-outcome (proposed step trial passes) = Proposed passes
-outcome (judged t) = verdict-of (t .accepted) (t .ratio)
-outcome renewed = Taken
-
-pub record Done : Type 0 where
-  pub reply : Reply
-  pub after : Station
+outcome (refused r) = Refused r
+outcome (given (proposed step trial passes)) = Proposed passes
+outcome (given (judged t)) = verdict-of (t .accepted) (t .ratio)
+outcome (given renewed) = Taken
 
 -- ---- one call: its reply, and the station afterwards
 
 unfoldable pub on-proposal : Station → Answer Proposal → Done
-on-proposal s a = record {
-  reply = tell a;
-  after = record {
-    session = left-in (λ (p : Proposal). p .session) a (s .session);
-    lent = record {
-      point = s .lent .point;
-      gradient = s .lent .gradient;
-      hessian = s .lent .hessian;
-      step = left-in (λ (p : Proposal). p .offer .step) a (s .lent .step);
-      trial = left-in (λ (p : Proposal). p .offer .trial) a (s .lent .trial);
-      scratch = scratch-after a (s .lent .scratch);
-    };
-  };
-}
+on-proposal = answered tell (λ (p : Proposal). p .session) (proposing (λ (p : Proposal). p .offer .step) (λ (p : Proposal). p .offer .trial))
   where
-    tell : Answer Proposal → Reply
-    tell (refused r) = refusal r
-    tell (given p) = proposed (p .offer .step) (p .offer .trial) (p .offer .passes)
+    tell : Proposal → Told
+    tell p = proposed (p .offer .step) (p .offer .trial) (p .offer .passes)
 
 unfoldable pub on-judgement : Station → Float → Answer Judgement → Done
-on-judgement s F a = record {
-  reply = tell a;
-  after = record {
-    session = left-in (λ (j : Judgement). j .session) a (s .session);
-    lent = record {
-      point = left-in (λ (j : Judgement). j .point) a (s .lent .point);
-      gradient = s .lent .gradient;
-      hessian = s .lent .hessian;
-      step = s .lent .step;
-      trial = s .lent .trial;
-      scratch = s .lent .scratch;
-    };
-  };
-}
+on-judgement s F = answered tell (λ (j : Judgement). j .session) leave s
   where
-    tell : Answer Judgement → Reply
-    tell (refused r) = refusal r
-    tell (given j) = judged (record {
-      step = s .lent .step;
-      trial = s .lent .trial;
-      before = s .session .cost;
-      promise = promised (s .session .phase);
-      cost = F;
-      ratio = j .ratio;
-      accepted = j .accepted;
-      radius-before = s .session .radius;
-      radius = j .session .radius;
-    })
+    tell : Judgement → Told
+    tell j = judged (trial-at (λ x. x .cost) (λ x. x .radius) (λ x. promised (x .phase)) s F (j .ratio) (j .accepted) (j .session))
+
+    leave : Answer Judgement → Vectors → Vectors
+    leave a v = record { point = left-in (λ (j : Judgement). j .point) a (v .point); gradient = v .gradient; hessian = v .hessian; step = v .step; trial = v .trial; scratch = v .scratch }
 
 unfoldable pub on-renewal : Station → Answer Renewal → Done
-on-renewal s a = record {
-  reply = tell a;
-  after = record {
-    session = left-in (λ (r : Renewal). r .session) a (s .session);
-    lent = record {
-      point = s .lent .point;
-      gradient = left-in (λ (r : Renewal). r .gradient) a (s .lent .gradient);
-      hessian = left-in (λ (r : Renewal). r .hessian) a (s .lent .hessian);
-      step = s .lent .step;
-      trial = s .lent .trial;
-      scratch = s .lent .scratch;
-    };
-  };
-}
+on-renewal = answered (λ (r : Renewal). renewed) (λ (r : Renewal). r .session) leave
   where
-    tell : Answer Renewal → Reply
-    tell (refused r) = refusal r
-    tell (given x) = renewed
-
--- the session, lent v
-abbrev pub lending-it : Vectors → Station → Station
-lending-it v s = record { session = s .session; lent = v }
+    leave : Answer Renewal → Vectors → Vectors
+    leave a v = record {
+      point = v .point;
+      gradient = left-in (λ (r : Renewal). r .gradient) a (v .gradient);
+      hessian = left-in (λ (r : Renewal). r .hessian) a (v .hessian);
+      step = v .step;
+      trial = v .trial;
+      scratch = v .scratch;
+    }
 
 abbrev pub judgement-at : Station → ℕ → Float → Answer Judgement
 judgement-at s n F = judgement (s .session) n F (s .lent .point) (s .lent .trial)
 
 abbrev pub renewal-at : Station → ℕ → (gradient hessian : List Float) → Answer Renewal
 renewal-at s n gradient hessian = renewal (s .session) n gradient hessian (s .lent .gradient) (s .lent .hessian)
-
--- One line of a run: a call, and what it was answered.
-pub record Entry : Type 0 where
-  pub call : Call
-  pub reply : Reply
 
 module _ (kernel : Settings → Kernel) where
   abbrev pub proposal-at : Station → ℕ → Answer Proposal
@@ -172,61 +98,23 @@ module _ (kernel : Settings → Kernel) where
   respond (cost n F) s = on-judgement s F (judgement-at s n F)
   respond (derivatives n gradient hessian) s = on-renewal s (renewal-at s n gradient hessian)
 
-  -- A call that is lent others changes those, and the station in its session alone.
-  abbrev pub perform-by : Lending → Request → Station → Done
-  perform-by own q s = respond q s
-  perform-by (others v) q s =
-      let d = respond q (lending-it v s) in
-      record { reply = d .reply; after = lending-it (s .lent) (d .after) }
-
-  abbrev pub perform : Call → Station → Done
-  perform c s = perform-by (c .lending) (c .request) s
-
-  -- what each call is answered, and where the station ends
-  abbrev pub run : Station → List Call → List Entry
-  run s [] = []
-  run s (c ∷ cs) = record { call = c; reply = perform c s .reply } ∷ run (perform c s .after) cs
-
-  abbrev pub final : Station → List Call → Station
-  final s [] = s
-  final s (c ∷ cs) = final (perform c s .after) cs
-
-abbrev pub calls : List Entry → List Call
-calls [] = []
-calls (e ∷ es) = e .call ∷ calls es
-
 -- ---- kinds of reply
 
--- a test of a reply, by its kinds
-abbrev pub reply-is : (turned-down : Refusal → Bool) (made : Bool) (taken : Trial → Bool) → Reply → Bool
-reply-is turned-down made taken (refusal r) = turned-down r
-reply-is turned-down made taken (proposed step trial passes) = made
-reply-is turned-down made taken (judged t) = taken t
-reply-is turned-down made taken renewed = false
-
-abbrev pub was-refused : Reply → Bool
-was-refused = reply-is (λ r. true) false (λ t. false)
-
-abbrev pub refused-by-1 : Reply → Bool
-refused-by-1 = reply-is (λ r. eqb (number r) 1) false (λ t. false)
+-- a test of a reply that is not refused, by its kinds
+abbrev pub reply-is : (made : Bool) (taken : Trial → Bool) → Reply → Bool
+reply-is made taken (refused r) = false
+reply-is made taken (given (proposed step trial passes)) = made
+reply-is made taken (given (judged t)) = taken t
+reply-is made taken (given renewed) = false
 
 abbrev pub opens-trial : Reply → Bool
-opens-trial = reply-is (λ r. false) true (λ t. false)
+opens-trial = reply-is true (λ t. false)
 
 abbrev pub took-cost : Reply → Bool
-took-cost = reply-is (λ r. false) false (λ t. true)
+took-cost = reply-is false (λ t. true)
 
 abbrev pub took-nan : Reply → Bool
-took-nan = reply-is (λ r. false) false (λ t. isNan (t .cost))
-
--- "lent the same vectors, besides the answers, at every call not refused by 1"
-abbrev pub lends-own : Lending → Bool
-lends-own own = true
-lends-own (others v) = false
-
-abbrev pub lent-same : List Entry → Bool
-lent-same [] = true
-lent-same (e ∷ es) = (lends-own (e .call .lending) || refused-by-1 (e .reply)) && lent-same es
+took-nan = reply-is false (λ t. isNan (t .cost))
 
 -- ---- striking
 
@@ -244,20 +132,14 @@ strike-from false (e ∷ es) = cond (opens-trial (e .reply) && nan-comes es) (st
 abbrev pub strike : List Entry → List Entry
 strike es = strike-from false es
 
--- "Other refused calls may be struck too": `Thinned es ds` says that ds is es without some of its refused calls.
-pub data Thinned : List Entry → List Entry → Type 0 where
-  none : Thinned [] []
-  keep : (e : Entry) {es ds : List Entry} → Thinned es ds → Thinned (e ∷ es) (e ∷ ds)
-  drop : (e : Entry) {es ds : List Entry} → T (was-refused (e .reply)) → Thinned es ds → Thinned (e ∷ es) ds
-
 -- ---- the trials of a run
 
 -- those that were answered
 abbrev pub add-trial : Reply → List Trial → List Trial
-add-trial (refusal r) ts = ts
-add-trial (proposed p x k) ts = ts
-add-trial (judged t) ts = t ∷ ts
-add-trial renewed ts = ts
+add-trial (refused r) ts = ts
+add-trial (given (proposed p x k)) ts = ts
+add-trial (given (judged t)) ts = t ∷ ts
+add-trial (given renewed) ts = ts
 
 abbrev pub trials : List Entry → List Trial
 trials [] = []
@@ -267,7 +149,3 @@ trials (e ∷ es) = add-trial (e .reply) (trials es)
 abbrev pub seen : List Trial → List Trial
 seen [] = []
 seen (t ∷ ts) = cond (isNan (t .cost)) (seen ts) (t ∷ seen ts)
-
-abbrev pub Every : (Trial → Type 0) → List Trial → Type 0
-Every P [] = Unit {0}
-Every P (t ∷ ts) = P t × Every P ts

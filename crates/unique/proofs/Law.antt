@@ -87,6 +87,18 @@ module _ (T : Ended) where
           via (w .𝓤) (sep (w .𝓤) (Leaves w κs a s) (fact (w .𝓤) (both κs a r s))) (monoR (w .𝓤) (Leaves w κs a s) (joined s))
           (exI (w .𝓤) (λ (s : Lasts T κs a). sep (w .𝓤) (Leaves w κs a s) (fact (w .𝓤) (both κs a r s))) s))
 
+  -- ---- what follows of a fact
+
+  -- whoever has what the contract ensures knows this fact of the result and of what is left
+  abbrev pub States : Contract → Fact → Type 2
+  States c φ = (w : World) (κs : Lifetimes) (a : Arguments κs) (g : at c w κs a .ghost) (r : Result κs) → ent (w .𝓤) (at c w κs a .ensures g r) (Said φ w κs a r)
+
+  pub said-then : (φ ψ : Fact) → ((κs : Lifetimes) (a : Arguments κs) (r : Result κs) (s : Lasts T κs a) → φ κs a r s → ψ κs a r s) → (w : World) (κs : Lifetimes) (a : Arguments κs) (r : Result κs) → ent (w .𝓤) (Said φ w κs a r) (Said ψ w κs a r)
+  said-then φ ψ h w κs a r = exE (w .𝓤) _ (λ s.
+      via (w .𝓤) (sep (w .𝓤) (Leaves w κs a s) (fact (w .𝓤) (ψ κs a r s)))
+      (monoR (w .𝓤) (Leaves w κs a s) (fact-use (w .𝓤) (φ κs a r s) (id⊢ (w .𝓤) (fact (w .𝓤) (φ κs a r s))) (λ p. factI (w .𝓤) (ψ κs a r s) _ (h κs a r s p))))
+      (exI (w .𝓤) (λ (s : Lasts T κs a). sep (w .𝓤) (Leaves w κs a s) (fact (w .𝓤) (ψ κs a r s))) s))
+
 -- ---- how a line is shown
 
 -- both are d
@@ -116,3 +128,7 @@ module _ (T : Ended) (c : Contract T) where
   -- a contract that says what the result equals, where nothing is lent to be changed
   pub equation : {d : (κs : Lifetimes T) → Arguments T κs → Result T κs} → Is T c (Said T (λ κs a r s. r ≡ d κs a)) → ((κs : Lifetimes T) (a : Arguments T κs) (s s₂ : Lasts T κs a) → s ≡ s₂) → Line
   equation h o = unique h (λ κs a r r₂ s s₂ p q. (alike p q, o κs a s s₂))
+
+  -- what follows from what a contract says, and so from the contract
+  pub states : {φ : Fact T} (ψ : Fact T) → Is T c (Said T φ) → ((κs : Lifetimes T) (a : Arguments T κs) (r : Result T κs) (s : Lasts T κs a) → φ κs a r s → ψ κs a r s) → States T c ψ
+  states {φ} ψ e h = λ w κs a g r. subst (λ P. ent (w .𝓤) P (Said T ψ w κs a r)) (sym (e w κs a g r)) (said-then T φ ψ h w κs a r)

@@ -2,16 +2,21 @@
 use mathlib.Core.Path.{_≡_, refl}
 use mathlib.Core.List.{List, [], _∷_}
 use lib.Ieee.{Float}
+use denote.Ref.{now}
 use Rattle.vectors.specs.Refusal.{Answer}
+use Rattle.offer.specs.Run.{Does}
+use Rattle.sr1.specs.Settings.{chosen}
 use Rattle.sr1.specs.Session.{Proposal, Judgement}
 use Rattle.sr1.specs.Calls.{Proposes, Judges}
+use Rattle.sr1.specs.Run.{propose, answer, outcome, respond}
 use Rattle.sr1.specs.declared.session.Session.{Session}
 use Rattle.sr1.specs.declared.session.After.{After}
-use Rattle.unique.proofs.Law.{Line, unique, equation, alike, _&_}
+use Rattle.unique.proofs.Law.{Fact, States, states, Line, unique, equation, alike, _&_}
 use Rattle.sr1.proofs.settings as settings
 use Rattle.sr1.proofs.session as session
 use Rattle.sr1.proofs.sr1_trustregion as method
 use Rattle.sr1.proofs.in_place as place
+use Rattle.sr1.proofs.Calls.{run-proposes, run-judges}
 
 pub proposes : {s : Session} {r r₂ : After} {a : Answer Proposal} {step trial scratch step₁ trial₁ scratch₁ step₂ trial₂ scratch₂ : List Float}
     → Proposes a s step trial scratch r step₁ trial₁ scratch₁ → Proposes a s step trial scratch r₂ step₂ trial₂ scratch₂ → (r ≡ r₂) × (step₁ ≡ step₂) × (trial₁ ≡ trial₂) × (scratch₁ ≡ scratch₂)
@@ -37,3 +42,25 @@ table =
     ∷ unique place.propose.ended (λ M. place.propose.spec) (λ w κs a g r. refl) (λ κs a r r₂ s s₂ p q. let e = proposes p q in ((λ i. e .0 i .outcome), λ i. e .0 i .session & tt & tt & tt & tt & e .1 i & e .2 i & e .3 i & tt))
     ∷ unique place.answer.ended (λ M. place.answer.spec) (λ w κs a g r. refl) (λ κs a r r₂ s s₂ p q. let e = judges p q in ((λ i. e .0 i .outcome), λ i. e .0 i .session & tt & tt & tt & e .1 i & tt & tt & e .2 i & e .3 i & e .4 i & tt))
     ∷ []
+
+-- ---- The calls by `&mut` do what a run has, at the station with the session and the vectors that they were lent.
+
+abbrev pub Judges-so : Fact place.answer.ended
+Judges-so κs a r left =
+    let (s, (n, (F, (G, (point, (step, (trial, (gradient, (hessian, (scratch, _)))))))))) = a in
+    let (s′, (_, (_, (_, (point′, (_, (_, (gradient′, (hessian′, (scratch′, _)))))))))) = left in
+    Does outcome (respond chosen (answer n F (now G)) (record { session = now s; lent = record { point = now point; gradient = now gradient; hessian = now hessian; step = now step; trial = now trial; scratch = now scratch } }))
+    r s′ (record { point = point′; gradient = gradient′; hessian = hessian′; step = now step; trial = now trial; scratch = scratch′ })
+
+pub answer-runs : States place.answer.ended (λ M. place.answer.spec) Judges-so
+answer-runs = states place.answer.ended (λ M. place.answer.spec) Judges-so (λ w κs a g r. refl) (λ κs a r s p. run-judges chosen _ _ _ _ _ _ _ _ _ p)
+
+abbrev pub Proposes-so : Fact place.propose.ended
+Proposes-so κs a r left =
+    let (s, (n, (point, (gradient, (hessian, (step, (trial, (scratch, _)))))))) = a in
+    let (s′, (_, (_, (_, (_, (step′, (trial′, (scratch′, _)))))))) = left in
+    Does outcome (respond chosen (propose n) (record { session = now s; lent = record { point = now point; gradient = now gradient; hessian = now hessian; step = now step; trial = now trial; scratch = now scratch } }))
+    r s′ (record { point = now point; gradient = now gradient; hessian = now hessian; step = step′; trial = trial′; scratch = scratch′ })
+
+pub propose-runs : States place.propose.ended (λ M. place.propose.spec) Proposes-so
+propose-runs = states place.propose.ended (λ M. place.propose.spec) Proposes-so (λ w κs a g r. refl) (λ κs a r s p. run-proposes chosen _ _ _ _ _ _ p)

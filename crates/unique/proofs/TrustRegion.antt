@@ -2,16 +2,21 @@
 use mathlib.Core.Path.{_≡_, refl}
 use mathlib.Core.List.{List, [], _∷_}
 use lib.Ieee.{Float}
+use denote.Ref.{now}
 use Rattle.vectors.specs.Refusal.{Answer}
+use Rattle.offer.specs.Run.{Does}
+use Rattle.trustregion.specs.Settings.{chosen}
 use Rattle.trustregion.specs.Session.{Proposal, Judgement, Renewal}
 use Rattle.trustregion.specs.Calls.{Proposes, Judges, Renews}
+use Rattle.trustregion.specs.Run.{propose, cost, derivatives, outcome, respond}
 use Rattle.trustregion.specs.declared.session.Session.{Session}
 use Rattle.trustregion.specs.declared.session.After.{After}
-use Rattle.unique.proofs.Law.{Line, unique, equation, alike, _&_}
+use Rattle.unique.proofs.Law.{Fact, States, states, Line, unique, equation, alike, _&_}
 use Rattle.trustregion.proofs.settings as settings
 use Rattle.trustregion.proofs.session as session
 use Rattle.trustregion.proofs.trustregion_method as method
 use Rattle.trustregion.proofs.in_place as place
+use Rattle.trustregion.proofs.Calls.{run-proposes, run-judges, run-renews}
 
 pub proposes : {s : Session} {r r₂ : After} {a : Answer Proposal} {step trial scratch step₁ trial₁ scratch₁ step₂ trial₂ scratch₂ : List Float}
     → Proposes a s step trial scratch r step₁ trial₁ scratch₁ → Proposes a s step trial scratch r₂ step₂ trial₂ scratch₂ → (r ≡ r₂) × (step₁ ≡ step₂) × (trial₁ ≡ trial₂) × (scratch₁ ≡ scratch₂)
@@ -41,3 +46,37 @@ table =
     ∷ unique place.«answer_cost».ended (λ M. place.«answer_cost».spec) (λ w κs a g r. refl) (λ κs a r r₂ s s₂ p q. let e = judges p q in ((λ i. e .0 i .outcome), λ i. e .0 i .session & tt & tt & e .1 i & tt & tt))
     ∷ unique place.«answer_derivatives».ended (λ M. place.«answer_derivatives».spec) (λ w κs a g r. refl) (λ κs a r r₂ s s₂ p q. let e = renews p q in ((λ i. e .0 i .outcome), λ i. e .0 i .session & tt & tt & tt & e .1 i & e .2 i & tt))
     ∷ []
+
+-- ---- The calls by `&mut` do what a run has, at a station with the session and the vectors that they were lent; the others are any.
+
+abbrev pub Proposes-so : Fact place.propose.ended
+Proposes-so κs a r left =
+    let (s, (n, (point, (gradient, (hessian, (step, (trial, (scratch, _)))))))) = a in
+    let (s′, (_, (_, (_, (_, (step′, (trial′, (scratch′, _)))))))) = left in
+    Does outcome (respond chosen (propose n) (record { session = now s; lent = record { point = now point; gradient = now gradient; hessian = now hessian; step = now step; trial = now trial; scratch = now scratch } }))
+    r s′ (record { point = now point; gradient = now gradient; hessian = now hessian; step = step′; trial = trial′; scratch = scratch′ })
+
+pub propose-runs : States place.propose.ended (λ M. place.propose.spec) Proposes-so
+propose-runs = states place.propose.ended (λ M. place.propose.spec) Proposes-so (λ w κs a g r. refl) (λ κs a r s p. run-proposes chosen _ _ _ _ _ _ p)
+
+abbrev pub Judges-so : Fact place.«answer_cost».ended
+Judges-so κs a r left =
+    let (s, (n, (F, (point, (trial, _))))) = a in
+    let (s′, (_, (_, (point′, _)))) = left in
+    (gradient hessian step scratch : List Float)
+    → Does outcome (respond chosen (cost n F) (record { session = now s; lent = record { point = now point; gradient = gradient; hessian = hessian; step = step; trial = now trial; scratch = scratch } }))
+    r s′ (record { point = point′; gradient = gradient; hessian = hessian; step = step; trial = now trial; scratch = scratch })
+
+pub cost-runs : States place.«answer_cost».ended (λ M. place.«answer_cost».spec) Judges-so
+cost-runs = states place.«answer_cost».ended (λ M. place.«answer_cost».spec) Judges-so (λ w κs a g r. refl) (λ κs a r s p gradient hessian step scratch. run-judges chosen _ _ _ _ _ p)
+
+abbrev pub Renews-so : Fact place.«answer_derivatives».ended
+Renews-so κs a r left =
+    let (s, (n, (g, (H, (gradient, (hessian, _)))))) = a in
+    let (s′, (_, (_, (_, (gradient′, (hessian′, _)))))) = left in
+    (point step trial scratch : List Float)
+    → Does outcome (respond chosen (derivatives n (now g) (now H)) (record { session = now s; lent = record { point = point; gradient = now gradient; hessian = now hessian; step = step; trial = trial; scratch = scratch } }))
+    r s′ (record { point = point; gradient = gradient′; hessian = hessian′; step = step; trial = trial; scratch = scratch })
+
+pub derivatives-runs : States place.«answer_derivatives».ended (λ M. place.«answer_derivatives».spec) Renews-so
+derivatives-runs = states place.«answer_derivatives».ended (λ M. place.«answer_derivatives».spec) Renews-so (λ w κs a g r. refl) (λ κs a r s p point step trial scratch. run-renews chosen _ _ _ _ _ _ _ p)
