@@ -11,7 +11,7 @@ use Rattle.sr1.specs.Calls.{Proposes, Judges}
 use Rattle.sr1.specs.Run.{propose, answer, outcome, respond}
 use Rattle.sr1.specs.declared.session.Session.{Session}
 use Rattle.sr1.specs.declared.session.After.{After}
-use Rattle.unique.proofs.Law.{Fact, States, states, Line, unique, equation, alike, _&_}
+use Rattle.unique.proofs.Law.{Contract, Fact, States, states, Line, unique, equation, alike, _&_}
 use Rattle.sr1.proofs.settings as settings
 use Rattle.sr1.proofs.session as session
 use Rattle.sr1.proofs.sr1_trustregion as method
@@ -45,22 +45,26 @@ table =
 
 -- ---- The calls by `&mut` do what a run has, at the station with the session and the vectors that they were lent.
 
+abbrev answer-contract : Contract place.answer.ended
+answer-contract M = place.answer.spec
+
+abbrev propose-contract : Contract place.propose.ended
+propose-contract M = place.propose.spec
+
 abbrev pub Judges-so : Fact place.answer.ended
 Judges-so κs a r left =
     let (s, (n, (F, (G, (point, (step, (trial, (gradient, (hessian, (scratch, _)))))))))) = a in
     let (s′, (_, (_, (_, (point′, (_, (_, (gradient′, (hessian′, (scratch′, _)))))))))) = left in
-    Does outcome (respond chosen (answer n F (now G)) (record { session = now s; lent = record { point = now point; gradient = now gradient; hessian = now hessian; step = now step; trial = now trial; scratch = now scratch } }))
-    r s′ (record { point = point′; gradient = gradient′; hessian = hessian′; step = now step; trial = now trial; scratch = scratch′ })
+    Does outcome (respond chosen (answer n F (now G)) (record { session = now s; lent = record { point = now point; gradient = now gradient; hessian = now hessian; step = now step; trial = now trial; scratch = now scratch } })) r s′ (record { point = point′; gradient = gradient′; hessian = hessian′; step = now step; trial = now trial; scratch = scratch′ })
 
-pub answer-runs : States place.answer.ended (λ M. place.answer.spec) Judges-so
-answer-runs = states place.answer.ended (λ M. place.answer.spec) Judges-so (λ w κs a g r. refl) (λ κs a r s p. run-judges chosen _ _ _ _ _ _ _ _ _ p)
+pub answer-runs : States place.answer.ended answer-contract Judges-so
+answer-runs = states place.answer.ended answer-contract Judges-so (λ w κs a g r. refl) (λ κs a r s p. run-judges chosen _ _ _ _ _ _ _ _ _ p)
 
 abbrev pub Proposes-so : Fact place.propose.ended
 Proposes-so κs a r left =
     let (s, (n, (point, (gradient, (hessian, (step, (trial, (scratch, _)))))))) = a in
     let (s′, (_, (_, (_, (_, (step′, (trial′, (scratch′, _)))))))) = left in
-    Does outcome (respond chosen (propose n) (record { session = now s; lent = record { point = now point; gradient = now gradient; hessian = now hessian; step = now step; trial = now trial; scratch = now scratch } }))
-    r s′ (record { point = now point; gradient = now gradient; hessian = now hessian; step = step′; trial = trial′; scratch = scratch′ })
+    Does outcome (respond chosen (propose n) (record { session = now s; lent = record { point = now point; gradient = now gradient; hessian = now hessian; step = now step; trial = now trial; scratch = now scratch } })) r s′ (record { point = now point; gradient = now gradient; hessian = now hessian; step = step′; trial = trial′; scratch = scratch′ })
 
-pub propose-runs : States place.propose.ended (λ M. place.propose.spec) Proposes-so
-propose-runs = states place.propose.ended (λ M. place.propose.spec) Proposes-so (λ w κs a g r. refl) (λ κs a r s p. run-proposes chosen _ _ _ _ _ _ p)
+pub propose-runs : States place.propose.ended propose-contract Proposes-so
+propose-runs = states place.propose.ended propose-contract Proposes-so (λ w κs a g r. refl) (λ κs a r s p. run-proposes chosen _ _ _ _ _ _ p)

@@ -11,7 +11,7 @@ use Rattle.trustregion.specs.Calls.{Proposes, Judges, Renews}
 use Rattle.trustregion.specs.Run.{propose, cost, derivatives, outcome, respond}
 use Rattle.trustregion.specs.declared.session.Session.{Session}
 use Rattle.trustregion.specs.declared.session.After.{After}
-use Rattle.unique.proofs.Law.{Fact, States, states, Line, unique, equation, alike, _&_}
+use Rattle.unique.proofs.Law.{Contract, Fact, States, states, Line, unique, equation, alike, _&_}
 use Rattle.trustregion.proofs.settings as settings
 use Rattle.trustregion.proofs.session as session
 use Rattle.trustregion.proofs.trustregion_method as method
@@ -49,34 +49,40 @@ table =
 
 -- ---- The calls by `&mut` do what a run has, at a station with the session and the vectors that they were lent; the others are any.
 
+abbrev propose-contract : Contract place.propose.ended
+propose-contract M = place.propose.spec
+
+abbrev cost-contract : Contract place.«answer_cost».ended
+cost-contract M = place.«answer_cost».spec
+
+abbrev derivatives-contract : Contract place.«answer_derivatives».ended
+derivatives-contract M = place.«answer_derivatives».spec
+
 abbrev pub Proposes-so : Fact place.propose.ended
 Proposes-so κs a r left =
     let (s, (n, (point, (gradient, (hessian, (step, (trial, (scratch, _)))))))) = a in
     let (s′, (_, (_, (_, (_, (step′, (trial′, (scratch′, _)))))))) = left in
-    Does outcome (respond chosen (propose n) (record { session = now s; lent = record { point = now point; gradient = now gradient; hessian = now hessian; step = now step; trial = now trial; scratch = now scratch } }))
-    r s′ (record { point = now point; gradient = now gradient; hessian = now hessian; step = step′; trial = trial′; scratch = scratch′ })
+    Does outcome (respond chosen (propose n) (record { session = now s; lent = record { point = now point; gradient = now gradient; hessian = now hessian; step = now step; trial = now trial; scratch = now scratch } })) r s′ (record { point = now point; gradient = now gradient; hessian = now hessian; step = step′; trial = trial′; scratch = scratch′ })
 
-pub propose-runs : States place.propose.ended (λ M. place.propose.spec) Proposes-so
-propose-runs = states place.propose.ended (λ M. place.propose.spec) Proposes-so (λ w κs a g r. refl) (λ κs a r s p. run-proposes chosen _ _ _ _ _ _ p)
+pub propose-runs : States place.propose.ended propose-contract Proposes-so
+propose-runs = states place.propose.ended propose-contract Proposes-so (λ w κs a g r. refl) (λ κs a r s p. run-proposes chosen _ _ _ _ _ _ p)
 
 abbrev pub Judges-so : Fact place.«answer_cost».ended
 Judges-so κs a r left =
     let (s, (n, (F, (point, (trial, _))))) = a in
     let (s′, (_, (_, (point′, _)))) = left in
     (gradient hessian step scratch : List Float)
-    → Does outcome (respond chosen (cost n F) (record { session = now s; lent = record { point = now point; gradient = gradient; hessian = hessian; step = step; trial = now trial; scratch = scratch } }))
-    r s′ (record { point = point′; gradient = gradient; hessian = hessian; step = step; trial = now trial; scratch = scratch })
+    → Does outcome (respond chosen (cost n F) (record { session = now s; lent = record { point = now point; gradient = gradient; hessian = hessian; step = step; trial = now trial; scratch = scratch } })) r s′ (record { point = point′; gradient = gradient; hessian = hessian; step = step; trial = now trial; scratch = scratch })
 
-pub cost-runs : States place.«answer_cost».ended (λ M. place.«answer_cost».spec) Judges-so
-cost-runs = states place.«answer_cost».ended (λ M. place.«answer_cost».spec) Judges-so (λ w κs a g r. refl) (λ κs a r s p gradient hessian step scratch. run-judges chosen _ _ _ _ _ p)
+pub cost-runs : States place.«answer_cost».ended cost-contract Judges-so
+cost-runs = states place.«answer_cost».ended cost-contract Judges-so (λ w κs a g r. refl) (λ κs a r s p gradient hessian step scratch. run-judges chosen _ _ _ _ _ p)
 
 abbrev pub Renews-so : Fact place.«answer_derivatives».ended
 Renews-so κs a r left =
     let (s, (n, (g, (H, (gradient, (hessian, _)))))) = a in
     let (s′, (_, (_, (_, (gradient′, (hessian′, _)))))) = left in
     (point step trial scratch : List Float)
-    → Does outcome (respond chosen (derivatives n (now g) (now H)) (record { session = now s; lent = record { point = point; gradient = now gradient; hessian = now hessian; step = step; trial = trial; scratch = scratch } }))
-    r s′ (record { point = point; gradient = gradient′; hessian = hessian′; step = step; trial = trial; scratch = scratch })
+    → Does outcome (respond chosen (derivatives n (now g) (now H)) (record { session = now s; lent = record { point = point; gradient = now gradient; hessian = now hessian; step = step; trial = trial; scratch = scratch } })) r s′ (record { point = point; gradient = gradient′; hessian = hessian′; step = step; trial = trial; scratch = scratch })
 
-pub derivatives-runs : States place.«answer_derivatives».ended (λ M. place.«answer_derivatives».spec) Renews-so
-derivatives-runs = states place.«answer_derivatives».ended (λ M. place.«answer_derivatives».spec) Renews-so (λ w κs a g r. refl) (λ κs a r s p point step trial scratch. run-renews chosen _ _ _ _ _ _ _ p)
+pub derivatives-runs : States place.«answer_derivatives».ended derivatives-contract Renews-so
+derivatives-runs = states place.«answer_derivatives».ended derivatives-contract Renews-so (λ w κs a g r. refl) (λ κs a r s p point step trial scratch. run-renews chosen _ _ _ _ _ _ _ p)
