@@ -33,26 +33,24 @@ int main(void) {
     double point[N] = { 10.0, 3.0 }, gradient[N], hessian[SQUARE];
     double step[N], trial[N], trial_gradient[N], trial_hessian[SQUARE], scratch[SCRATCH];
     mboyaxin_word words[MBOYAXIN_WORDS] = { [MBOYAXIN_KERNEL] = MBOYAXIN_STEIHAUG, [MBOYAXIN_LIMIT] = 10 };
-    double numbers[MBOYAXIN_TR_NUMBERS] = {
-        [MBOYAXIN_TR_SET_RADIUS] = 1.0, [MBOYAXIN_TR_SET_MAX_RADIUS] = 100.0, [MBOYAXIN_TR_SET_ETA] = 0.125, [MBOYAXIN_TR_SET_EPSILON] = 1e-9,
-        [MBOYAXIN_TR_COST] = cost_at(point, gradient, hessian)
-    };
-    mboyaxin_word refusal = mboyaxin_trustregion_start(words, numbers);
+    double numbers[MBOYAXIN_NUMBERS] = { [MBOYAXIN_EPSILON] = 1e-9, [MBOYAXIN_COST] = cost_at(point, gradient, hessian) };
+    const double settings[MBOYAXIN_TR_SETTINGS] = { [MBOYAXIN_TR_SET_RADIUS] = 1.0, [MBOYAXIN_TR_SET_MAX_RADIUS] = 100.0, [MBOYAXIN_TR_SET_ETA] = 0.125 };
+    mboyaxin_word refusal = mboyaxin_trustregion_start(words, numbers, settings);
     for (int i = 1; i <= 50 && !refusal; i++) {
-        refusal = mboyaxin_trustregion_propose(words, numbers, N, point, N, gradient, N, hessian, SQUARE, step, N, trial, N, scratch, SCRATCH);
+        refusal = mboyaxin_trustregion_propose(words, numbers, settings, N, point, N, gradient, N, hessian, SQUARE, step, N, trial, N, scratch, SCRATCH);
         /* argmin's TrustRegion goes on for ever: when a fit is over is for the laboratory to say. */
-        if (refusal || numbers[MBOYAXIN_TR_NORM] < 1e-6) break;
+        if (refusal || numbers[MBOYAXIN_NORM] < 1e-6) break;
 
         /* in the third trial a marker is hidden */
         double cost = i == 3 ? NAN : cost_at(trial, trial_gradient, trial_hessian);
-        refusal = mboyaxin_trustregion_answer_cost(words, numbers, N, cost, point, N, trial, N);
+        refusal = mboyaxin_trustregion_answer_cost(words, numbers, settings, N, cost, point, N, trial, N);
         if (refusal) break;
-        printf("%3d  %-22.17g %s  radius %g\n", i, cost, words[MBOYAXIN_SAID] == MBOYAXIN_ACCEPTED ? "accepted" : "rejected", numbers[MBOYAXIN_TR_RADIUS]);
+        printf("%3d  %-22.17g %s  radius %g\n", i, cost, words[MBOYAXIN_SAID] == MBOYAXIN_ACCEPTED ? "accepted" : "rejected", numbers[MBOYAXIN_RADIUS]);
 
         if (words[MBOYAXIN_PHASE] == MBOYAXIN_AWAITING_DERIVATIVES)
-            refusal = mboyaxin_trustregion_answer_derivatives(words, numbers, N, trial_gradient, N, trial_hessian, SQUARE, gradient, N, hessian, SQUARE);
+            refusal = mboyaxin_trustregion_answer_derivatives(words, numbers, settings, N, trial_gradient, N, trial_hessian, SQUARE, gradient, N, hessian, SQUARE);
     }
     if (refusal) printf("refused %lu\n", refusal);
-    printf("a = %.17g, b = %.17g, cost %.17g\n", point[0], point[1], numbers[MBOYAXIN_TR_COST]);
+    printf("a = %.17g, b = %.17g, cost %.17g\n", point[0], point[1], numbers[MBOYAXIN_COST]);
     return refusal != 0;
 }

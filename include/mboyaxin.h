@@ -3,9 +3,9 @@
    A list is a pointer and behind it its length. Vectors have n entries, n from 1 to 64; matrices n·n, by rows; the scratch 2·n·n + 8·n, each
    exactly. No two lists of a call may overlap if one of them is written.
 
-   A function that returns a word returns 0, or the number of a refusal (README.md has their table). A refused call has changed nothing; a
-   refusal from 6 on has cleared the scratch. A function that returns a number returns +0 for a refusal. Every NaN that is handed out has the
-   bits 7ff8000000000000: no proof can say so, oracle/nan-bits reads them. */
+   A function that may refuse returns 0, or the number of the refusal (README.md has their table), and writes what it gives where it is told.
+   A refused call has changed nothing; a refusal from 6 on has cleared the scratch. Every NaN that is handed out has the bits
+   7ff8000000000000: no proof can say so, oracle/nan-bits reads them. */
 
 #ifndef MBOYAXIN_H
 #define MBOYAXIN_H
@@ -16,19 +16,32 @@ extern "C" {
 
 typedef unsigned long mboyaxin_word; /* 64 bits */
 
+/* ---- crates/foreign: scalars; nothing is refused */
+
+/* the f64 nearest to the root of x; zero keeps its sign, a number below zero gives the NaN */
+double mboyaxin_root(double x);
+double mboyaxin_magnitude(double x);
+/* y where y < x, otherwise x */
+double mboyaxin_smaller(double x, double y);
+/* x, and the one NaN for any */
+double mboyaxin_one_nan(double x);
+double mboyaxin_float_of(mboyaxin_word bits);
+mboyaxin_word mboyaxin_bits_of(double x);
+
 /* ---- crates/foreign: vectors, the inverse, the reduction ratio */
 
-double mboyaxin_dot(mboyaxin_word n, const double *a, mboyaxin_word a_length, const double *b, mboyaxin_word b_length);
-double mboyaxin_norm(mboyaxin_word n, const double *a, mboyaxin_word a_length);
-double mboyaxin_weighted_dot(mboyaxin_word n, const double *a, mboyaxin_word a_length, const double *h, mboyaxin_word h_length, const double *b,
-    mboyaxin_word b_length);
+mboyaxin_word mboyaxin_dot(mboyaxin_word n, const double *a, mboyaxin_word a_length, const double *b, mboyaxin_word b_length, double *out);
+mboyaxin_word mboyaxin_norm(mboyaxin_word n, const double *a, mboyaxin_word a_length, double *out);
+mboyaxin_word mboyaxin_weighted_dot(mboyaxin_word n, const double *a, mboyaxin_word a_length, const double *h, mboyaxin_word h_length,
+    const double *b, mboyaxin_word b_length, double *out);
 mboyaxin_word mboyaxin_product(mboyaxin_word n, const double *h, mboyaxin_word h_length, const double *d, mboyaxin_word d_length, double *out,
     mboyaxin_word out_length);
 mboyaxin_word mboyaxin_inverse(mboyaxin_word n, const double *h, mboyaxin_word h_length, double *out, mboyaxin_word out_length, double *scratch,
     mboyaxin_word scratch_length);
-double mboyaxin_reduction_ratio(double cost, double trial_cost, double model_start, double model_trial);
 
-/* of any lengths: nothing is refused */
+/* nothing is refused */
+double mboyaxin_reduction_ratio(double cost, double trial_cost, double model_start, double model_trial);
+/* of any lengths */
 double mboyaxin_dot_any(const double *a, mboyaxin_word a_length, const double *b, mboyaxin_word b_length);
 double mboyaxin_norm_any(const double *a, mboyaxin_word a_length);
 
@@ -41,10 +54,15 @@ mboyaxin_kernel mboyaxin_cauchy_point, mboyaxin_dogleg, mboyaxin_steihaug;
 
 /* ---- crates/foreign_sessions
 
-   A session is five words and some numbers that its owner keeps, and each call changes them in place. Before a start the settings and the
-   cost stand in their places; nothing else is looked at. What a call does not tell is 0. */
+   A session is three lists that its owner keeps: words and numbers, the same for both kinds, which each call changes in place, and its kind's
+   own settings, which are only read. Before a start kernel, limit, epsilon, cost and settings stand in their places; nothing else is looked
+   at. What a call does not tell is 0. */
 
 enum { MBOYAXIN_KERNEL, MBOYAXIN_LIMIT, MBOYAXIN_PHASE, MBOYAXIN_SAID, MBOYAXIN_PASSES, MBOYAXIN_WORDS };
+
+/* PROMISE and NORM are what a cost is awaited on: TrustRegion's model value or SR1TrustRegion's predicted fall, and the step norm. RATIO is
+   that of a verdict. */
+enum { MBOYAXIN_EPSILON, MBOYAXIN_RADIUS, MBOYAXIN_COST, MBOYAXIN_PROMISE, MBOYAXIN_NORM, MBOYAXIN_RATIO, MBOYAXIN_NUMBERS };
 
 /* the kernel */
 enum { MBOYAXIN_CAUCHY_POINT = 1, MBOYAXIN_DOGLEG, MBOYAXIN_STEIHAUG };
@@ -55,39 +73,38 @@ enum { MBOYAXIN_READY, MBOYAXIN_AWAITING_COST, MBOYAXIN_AWAITING_DERIVATIVES };
 /* what the last call that was not refused said */
 enum { MBOYAXIN_STARTED, MBOYAXIN_PROPOSED, MBOYAXIN_ACCEPTED, MBOYAXIN_REJECTED, MBOYAXIN_TAKEN, MBOYAXIN_DONE };
 
-/* TrustRegion: the four settings, then the session. MODEL and NORM are what a cost is awaited on, RATIO is that of a verdict. */
-enum {
-    MBOYAXIN_TR_SET_RADIUS, MBOYAXIN_TR_SET_MAX_RADIUS, MBOYAXIN_TR_SET_ETA, MBOYAXIN_TR_SET_EPSILON,
-    MBOYAXIN_TR_RADIUS, MBOYAXIN_TR_COST, MBOYAXIN_TR_MODEL, MBOYAXIN_TR_NORM, MBOYAXIN_TR_RATIO, MBOYAXIN_TR_NUMBERS
-};
-mboyaxin_word mboyaxin_trustregion_start(mboyaxin_word words[MBOYAXIN_WORDS], double numbers[MBOYAXIN_TR_NUMBERS]);
-mboyaxin_word mboyaxin_trustregion_propose(mboyaxin_word words[MBOYAXIN_WORDS], double numbers[MBOYAXIN_TR_NUMBERS], mboyaxin_word n,
-    const double *point, mboyaxin_word point_length, const double *gradient, mboyaxin_word gradient_length, const double *hessian,
-    mboyaxin_word hessian_length, double *step, mboyaxin_word step_length, double *trial, mboyaxin_word trial_length, double *scratch,
-    mboyaxin_word scratch_length);
+/* TrustRegion */
+enum { MBOYAXIN_TR_SET_RADIUS, MBOYAXIN_TR_SET_MAX_RADIUS, MBOYAXIN_TR_SET_ETA, MBOYAXIN_TR_SETTINGS };
+mboyaxin_word mboyaxin_trustregion_start(mboyaxin_word words[MBOYAXIN_WORDS], double numbers[MBOYAXIN_NUMBERS],
+    const double settings[MBOYAXIN_TR_SETTINGS]);
+mboyaxin_word mboyaxin_trustregion_propose(mboyaxin_word words[MBOYAXIN_WORDS], double numbers[MBOYAXIN_NUMBERS],
+    const double settings[MBOYAXIN_TR_SETTINGS], mboyaxin_word n, const double *point, mboyaxin_word point_length, const double *gradient,
+    mboyaxin_word gradient_length, const double *hessian, mboyaxin_word hessian_length, double *step, mboyaxin_word step_length, double *trial,
+    mboyaxin_word trial_length, double *scratch, mboyaxin_word scratch_length);
 /* the cost at the trial point; NaN where its markers were hidden */
-mboyaxin_word mboyaxin_trustregion_answer_cost(mboyaxin_word words[MBOYAXIN_WORDS], double numbers[MBOYAXIN_TR_NUMBERS], mboyaxin_word n,
-    double cost, double *point, mboyaxin_word point_length, const double *trial, mboyaxin_word trial_length);
+mboyaxin_word mboyaxin_trustregion_answer_cost(mboyaxin_word words[MBOYAXIN_WORDS], double numbers[MBOYAXIN_NUMBERS],
+    const double settings[MBOYAXIN_TR_SETTINGS], mboyaxin_word n, double cost, double *point, mboyaxin_word point_length, const double *trial,
+    mboyaxin_word trial_length);
 /* after an accepted trial */
-mboyaxin_word mboyaxin_trustregion_answer_derivatives(mboyaxin_word words[MBOYAXIN_WORDS], double numbers[MBOYAXIN_TR_NUMBERS],
-    mboyaxin_word n, const double *new_gradient, mboyaxin_word new_gradient_length, const double *new_hessian, mboyaxin_word new_hessian_length,
-    double *gradient, mboyaxin_word gradient_length, double *hessian, mboyaxin_word hessian_length);
+mboyaxin_word mboyaxin_trustregion_answer_derivatives(mboyaxin_word words[MBOYAXIN_WORDS], double numbers[MBOYAXIN_NUMBERS],
+    const double settings[MBOYAXIN_TR_SETTINGS], mboyaxin_word n, const double *new_gradient, mboyaxin_word new_gradient_length,
+    const double *new_hessian, mboyaxin_word new_hessian_length, double *gradient, mboyaxin_word gradient_length, double *hessian,
+    mboyaxin_word hessian_length);
 
-/* SR1TrustRegion: the five settings, then the session. PREDICTED and NORM are what a cost is awaited on. It updates its Hessian itself. */
-enum {
-    MBOYAXIN_SR1_SET_RADIUS, MBOYAXIN_SR1_SET_ETA, MBOYAXIN_SR1_SET_FACTOR, MBOYAXIN_SR1_SET_TOL_GRAD, MBOYAXIN_SR1_SET_EPSILON,
-    MBOYAXIN_SR1_RADIUS, MBOYAXIN_SR1_COST, MBOYAXIN_SR1_PREDICTED, MBOYAXIN_SR1_NORM, MBOYAXIN_SR1_RATIO, MBOYAXIN_SR1_NUMBERS
-};
-mboyaxin_word mboyaxin_sr1_start(mboyaxin_word words[MBOYAXIN_WORDS], double numbers[MBOYAXIN_SR1_NUMBERS]);
-mboyaxin_word mboyaxin_sr1_propose(mboyaxin_word words[MBOYAXIN_WORDS], double numbers[MBOYAXIN_SR1_NUMBERS], mboyaxin_word n,
-    const double *point, mboyaxin_word point_length, const double *gradient, mboyaxin_word gradient_length, const double *hessian,
-    mboyaxin_word hessian_length, double *step, mboyaxin_word step_length, double *trial, mboyaxin_word trial_length, double *scratch,
-    mboyaxin_word scratch_length);
+/* SR1TrustRegion: it updates its Hessian itself */
+enum { MBOYAXIN_SR1_SET_RADIUS, MBOYAXIN_SR1_SET_ETA, MBOYAXIN_SR1_SET_FACTOR, MBOYAXIN_SR1_SET_TOL_GRAD, MBOYAXIN_SR1_SETTINGS };
+mboyaxin_word mboyaxin_sr1_start(mboyaxin_word words[MBOYAXIN_WORDS], double numbers[MBOYAXIN_NUMBERS],
+    const double settings[MBOYAXIN_SR1_SETTINGS]);
+mboyaxin_word mboyaxin_sr1_propose(mboyaxin_word words[MBOYAXIN_WORDS], double numbers[MBOYAXIN_NUMBERS],
+    const double settings[MBOYAXIN_SR1_SETTINGS], mboyaxin_word n, const double *point, mboyaxin_word point_length, const double *gradient,
+    mboyaxin_word gradient_length, const double *hessian, mboyaxin_word hessian_length, double *step, mboyaxin_word step_length, double *trial,
+    mboyaxin_word trial_length, double *scratch, mboyaxin_word scratch_length);
 /* the cost and the gradient at the trial point */
-mboyaxin_word mboyaxin_sr1_answer(mboyaxin_word words[MBOYAXIN_WORDS], double numbers[MBOYAXIN_SR1_NUMBERS], mboyaxin_word n, double cost,
-    const double *new_gradient, mboyaxin_word new_gradient_length, double *point, mboyaxin_word point_length, const double *step,
-    mboyaxin_word step_length, const double *trial, mboyaxin_word trial_length, double *gradient, mboyaxin_word gradient_length, double *hessian,
-    mboyaxin_word hessian_length, double *scratch, mboyaxin_word scratch_length);
+mboyaxin_word mboyaxin_sr1_answer(mboyaxin_word words[MBOYAXIN_WORDS], double numbers[MBOYAXIN_NUMBERS],
+    const double settings[MBOYAXIN_SR1_SETTINGS], mboyaxin_word n, double cost, const double *new_gradient, mboyaxin_word new_gradient_length,
+    double *point, mboyaxin_word point_length, const double *step, mboyaxin_word step_length, const double *trial, mboyaxin_word trial_length,
+    double *gradient, mboyaxin_word gradient_length, double *hessian, mboyaxin_word hessian_length, double *scratch,
+    mboyaxin_word scratch_length);
 
 #ifdef __cplusplus
 }

@@ -171,19 +171,20 @@ fn by_argmin(sr1: bool, kernel: Kernel, model: &Model, start: &Start) -> Vector 
 type List = *const f64;
 type Lent = *mut f64;
 type Words<'a> = &'a mut [u64; 5];
+type Numbers<'a> = &'a mut [f64; 6];
 #[rustfmt::skip]
 unsafe extern "C" {
-    fn mboyaxin_trustregion_start(words: Words, numbers: &mut [f64; 9]) -> u64;
-    fn mboyaxin_trustregion_propose(words: Words, numbers: &mut [f64; 9], n: usize, point: List, _: usize, gradient: List, _: usize,
+    fn mboyaxin_trustregion_start(words: Words, numbers: Numbers, settings: &[f64; 3]) -> u64;
+    fn mboyaxin_trustregion_propose(words: Words, numbers: Numbers, settings: &[f64; 3], n: usize, point: List, _: usize, gradient: List, _: usize,
         hessian: List, _: usize, step: Lent, _: usize, trial: Lent, _: usize, scratch: Lent, _: usize) -> u64;
-    fn mboyaxin_trustregion_answer_cost(words: Words, numbers: &mut [f64; 9], n: usize, cost: f64, point: Lent, _: usize,
+    fn mboyaxin_trustregion_answer_cost(words: Words, numbers: Numbers, settings: &[f64; 3], n: usize, cost: f64, point: Lent, _: usize,
         trial: List, _: usize) -> u64;
-    fn mboyaxin_trustregion_answer_derivatives(words: Words, numbers: &mut [f64; 9], n: usize, new_gradient: List, _: usize,
+    fn mboyaxin_trustregion_answer_derivatives(words: Words, numbers: Numbers, settings: &[f64; 3], n: usize, new_gradient: List, _: usize,
         new_hessian: List, _: usize, gradient: Lent, _: usize, hessian: Lent, _: usize) -> u64;
-    fn mboyaxin_sr1_start(words: Words, numbers: &mut [f64; 10]) -> u64;
-    fn mboyaxin_sr1_propose(words: Words, numbers: &mut [f64; 10], n: usize, point: List, _: usize, gradient: List, _: usize,
+    fn mboyaxin_sr1_start(words: Words, numbers: Numbers, settings: &[f64; 4]) -> u64;
+    fn mboyaxin_sr1_propose(words: Words, numbers: Numbers, settings: &[f64; 4], n: usize, point: List, _: usize, gradient: List, _: usize,
         hessian: List, _: usize, step: Lent, _: usize, trial: Lent, _: usize, scratch: Lent, _: usize) -> u64;
-    fn mboyaxin_sr1_answer(words: Words, numbers: &mut [f64; 10], n: usize, cost: f64, new_gradient: List, _: usize, point: Lent, _: usize,
+    fn mboyaxin_sr1_answer(words: Words, numbers: Numbers, settings: &[f64; 4], n: usize, cost: f64, new_gradient: List, _: usize, point: Lent, _: usize,
         step: List, _: usize, trial: List, _: usize, gradient: Lent, _: usize, hessian: Lent, _: usize, scratch: Lent, _: usize) -> u64;
 }
 
@@ -224,25 +225,24 @@ fn by_our_trustregion(
         scratch,
     } = lists;
     let n = step.len();
-    let mut numbers = [0.0; 9];
-    numbers[..4].copy_from_slice(&[RADIUS, MAX_RADIUS, ETA, EPSILON]);
-    numbers[5] = start.cost;
+    let mut numbers = [EPSILON, 0.0, start.cost, 0.0, 0.0, 0.0];
+    let settings = [RADIUS, MAX_RADIUS, ETA];
     let (mut point, mut g) = (start.point.clone(), start.gradient.0.clone());
     let mut h = start.hessian.entries().to_vec();
     // SAFETY: each pointer comes with its own list's length, and none of them overlap.
     unsafe {
-        done(mboyaxin_trustregion_start(&mut words, &mut numbers));
+        done(mboyaxin_trustregion_start(&mut words, &mut numbers, &settings));
         for _ in 0..TRIALS {
             #[rustfmt::skip]
-            done(mboyaxin_trustregion_propose(&mut words, &mut numbers, n, point.0.as_ptr(), n, g.as_ptr(), n, h.as_ptr(), n * n,
+            done(mboyaxin_trustregion_propose(&mut words, &mut numbers, &settings, n, point.0.as_ptr(), n, g.as_ptr(), n, h.as_ptr(), n * n,
                 step.as_mut_ptr(), n, trial.0.as_mut_ptr(), n, scratch.as_mut_ptr(), scratch.len()));
             let cost = model.cost_at(trial);
             #[rustfmt::skip]
-            done(mboyaxin_trustregion_answer_cost(&mut words, &mut numbers, n, cost, point.0.as_mut_ptr(), n, trial.0.as_ptr(), n));
+            done(mboyaxin_trustregion_answer_cost(&mut words, &mut numbers, &settings, n, cost, point.0.as_mut_ptr(), n, trial.0.as_ptr(), n));
             if words[PHASE] == AWAITING_DERIVATIVES {
                 let (new_g, new_h) = (model.gradient_at(&point), model.hessian_at(&point));
                 #[rustfmt::skip]
-                done(mboyaxin_trustregion_answer_derivatives(&mut words, &mut numbers, n, new_g.0.as_ptr(), n, new_h.entries().as_ptr(), n * n,
+                done(mboyaxin_trustregion_answer_derivatives(&mut words, &mut numbers, &settings, n, new_g.0.as_ptr(), n, new_h.entries().as_ptr(), n * n,
                     g.as_mut_ptr(), n, h.as_mut_ptr(), n * n));
             }
         }
@@ -257,21 +257,20 @@ fn by_our_sr1(mut words: [u64; 5], model: &Model, start: &Start, lists: &mut Lis
         scratch,
     } = lists;
     let n = step.len();
-    let mut numbers = [0.0; 10];
-    numbers[..5].copy_from_slice(&[RADIUS, SR1_ETA, FACTOR, TOL_GRAD, EPSILON]);
-    numbers[6] = start.cost;
+    let mut numbers = [EPSILON, 0.0, start.cost, 0.0, 0.0, 0.0];
+    let settings = [RADIUS, SR1_ETA, FACTOR, TOL_GRAD];
     let (mut point, mut g) = (start.point.clone(), start.gradient.0.clone());
     let mut h = start.hessian.entries().to_vec();
     // SAFETY: as above.
     unsafe {
-        done(mboyaxin_sr1_start(&mut words, &mut numbers));
+        done(mboyaxin_sr1_start(&mut words, &mut numbers, &settings));
         for _ in 0..TRIALS {
             #[rustfmt::skip]
-            done(mboyaxin_sr1_propose(&mut words, &mut numbers, n, point.0.as_ptr(), n, g.as_ptr(), n, h.as_ptr(), n * n,
+            done(mboyaxin_sr1_propose(&mut words, &mut numbers, &settings, n, point.0.as_ptr(), n, g.as_ptr(), n, h.as_ptr(), n * n,
                 step.as_mut_ptr(), n, trial.0.as_mut_ptr(), n, scratch.as_mut_ptr(), scratch.len()));
             let (cost, new_g) = (model.cost_at(trial), model.gradient_at(trial));
             #[rustfmt::skip]
-            done(mboyaxin_sr1_answer(&mut words, &mut numbers, n, cost, new_g.0.as_ptr(), n, point.0.as_mut_ptr(), n, step.as_ptr(), n,
+            done(mboyaxin_sr1_answer(&mut words, &mut numbers, &settings, n, cost, new_g.0.as_ptr(), n, point.0.as_mut_ptr(), n, step.as_ptr(), n,
                 trial.0.as_ptr(), n, g.as_mut_ptr(), n, h.as_mut_ptr(), n * n, scratch.as_mut_ptr(), scratch.len()));
         }
     }

@@ -4,9 +4,6 @@
 #include "mboyaxin.h"
 #include "see.h"
 
-double one_nan(double), magnitude(double), smaller(double, double), float_of(word), root(double);
-word bits_of(double);
-
 word patterns, wrong;
 
 void see(const char *name, word input, word got, word right) {
@@ -19,13 +16,13 @@ void see(const char *name, word input, word got, word right) {
 
 static void see_pattern(word w) {
     double x = number(w);
-    see("one_nan", w, bits(one_nan(x)), ONE_NAN);
-    see("magnitude", w, bits(magnitude(x)), ONE_NAN);
-    see("smaller", w, bits(smaller(x, 1.0)), ONE_NAN);
-    see("smaller than 1", w, bits(smaller(1.0, x)), bits(1.0));
-    see("float_of", w, bits(float_of(w)), ONE_NAN);
-    see("bits_of", w, bits_of(x), ONE_NAN);
-    see("root", w, bits(root(x)), ONE_NAN);
+    see("one_nan", w, bits(mboyaxin_one_nan(x)), ONE_NAN);
+    see("magnitude", w, bits(mboyaxin_magnitude(x)), ONE_NAN);
+    see("smaller", w, bits(mboyaxin_smaller(x, 1.0)), ONE_NAN);
+    see("smaller than 1", w, bits(mboyaxin_smaller(1.0, x)), bits(1.0));
+    see("float_of", w, bits(mboyaxin_float_of(w)), ONE_NAN);
+    see("bits_of", w, mboyaxin_bits_of(x), ONE_NAN);
+    see("root", w, bits(mboyaxin_root(x)), ONE_NAN);
 }
 
 /* NaN of both signs, quiet and signalling, with every single digit set, and with random ones. */
@@ -41,7 +38,7 @@ static void see_patterns(void) {
         }
     }
     static const word below[] = { 0xbff0000000000000, 0x8010000000000000, 0x8000000000000001, 0xfff0000000000000, 0xffefffffffffffff };
-    for (int i = 0; i < 5; i++) see("root", below[i], bits(root(number(below[i]))), ONE_NAN);
+    for (int i = 0; i < 5; i++) see("root", below[i], bits(mboyaxin_root(number(below[i]))), ONE_NAN);
 }
 
 /* ---- functions that make a NaN themselves */
@@ -94,6 +91,21 @@ static void see_matrix(const double *h, word n) {
     else for (word i = 0; i < n * n; i++) look(INVERSE, lent[i]);
 }
 
+/* Told n = 2 with lists of one number, each refuses by 1. */
+static void see_lengths(const double *v) {
+    lend();
+    const struct { int f; word refusal; } calls[] = {
+        { DOT, mboyaxin_dot(2, v, 1, v, 1, lent) },
+        { NORM, mboyaxin_norm(2, v, 1, lent) },
+        { WEIGHTED, mboyaxin_weighted_dot(2, v, 1, v, 1, v, 1, lent) },
+        { PRODUCT, mboyaxin_product(2, v, 1, v, 1, lent, 1) },
+    };
+    for (int i = 0; i < 4; i++) {
+        if (calls[i].refusal != 1) see(names[calls[i].f], 0, calls[i].refusal, 1);
+        see_refused(names[calls[i].f], calls[i].refusal, 0);
+    }
+}
+
 /* A kernel hands out no NaN at all. */
 static void see_kernel(const char *name, mboyaxin_kernel *k) {
     double v[3];
@@ -108,19 +120,19 @@ static void see_kernel(const char *name, mboyaxin_kernel *k) {
 }
 
 static void see_made(void) {
-    double v[4], d[2], out[2];
+    double v[4], d[2], out[2], x;
     for (word k = 0; k < SOURCES * SOURCES * SOURCES * SOURCES; k++) {
         list(v, 4, k);
         look(RATIO, mboyaxin_reduction_ratio(v[0], v[1], v[2], v[3]));
-        look(DOT, mboyaxin_dot(2, v, 2, v + 2, 2));
+        if (mboyaxin_dot(2, v, 2, v + 2, 2, &x) == 0) look(DOT, x);
         look(DOT_ANY, mboyaxin_dot_any(v, 2, v + 2, 2));
         look(DOT_ANY, mboyaxin_dot_any(v, 4, v + 2, 2));
-        look(NORM, mboyaxin_norm(4, v, 4));
+        if (mboyaxin_norm(4, v, 4, &x) == 0) look(NORM, x);
         look(NORM_ANY, mboyaxin_norm_any(v, 4));
         see_matrix(v, 2);
         for (word l = 0; l < SOURCES * SOURCES; l++) {
             list(d, 2, l);
-            look(WEIGHTED, mboyaxin_weighted_dot(2, d, 2, v, 4, d, 2));
+            if (mboyaxin_weighted_dot(2, d, 2, v, 4, d, 2, &x) == 0) look(WEIGHTED, x);
             if (mboyaxin_product(2, v, 4, d, 2, out, 2) == 0)
                 for (int i = 0; i < 2; i++) look(PRODUCT, out[i]);
         }
@@ -128,9 +140,7 @@ static void see_made(void) {
     for (word k = 0; k < SOURCES; k++) {
         list(v, 1, k);
         see_matrix(v, 1);
-        lend();
-        word refusal = mboyaxin_product(2, v, 1, v, 1, lent, 1);
-        if (refusal) see_refused(names[PRODUCT], refusal, 0);
+        see_lengths(v);
     }
     see_kernel("cauchy_point", mboyaxin_cauchy_point);
     see_kernel("dogleg", mboyaxin_dogleg);
@@ -142,7 +152,7 @@ int main(void) {
     see_made();
     see_sessions();
     for (int f = 0; f < FUNCTIONS; f++) printf("%s: %lu NaN made\n", names[f], found[f]);
-    printf("product, inverse and kernels: %lu refused calls\n", refused);
+    printf("numbers, product, inverse and kernels: %lu refused calls\n", refused);
     if (wrong) {
         printf("%lu of %lu patterns are wrong\n", wrong, patterns);
         return 1;

@@ -11,15 +11,13 @@ static const char *const sayings[SAYINGS] = { "started", "proposed", "accepted",
 typedef union { double x; word w; } cell;
 struct station {
     word words[MBOYAXIN_WORDS];
-    cell numbers[10], point[2], gradient[2], hessian[4], step[2], trial[2], new_gradient[2], new_hessian[4], scratch[24];
+    cell numbers[MBOYAXIN_NUMBERS], settings[MBOYAXIN_SR1_SETTINGS], point[2], gradient[2], hessian[4], step[2], trial[2], new_gradient[2], new_hessian[4], scratch[24];
 };
 static struct station now, was;
 #define CELLS (sizeof now / sizeof(word))
 
-/* Where the two kinds keep what may be a NaN, and the radius, which stands before the cost. */
-struct kind { const char *name; int radius, promise, norm, ratio, numbers; };
-static const struct kind trustregion = { "TrustRegion", MBOYAXIN_TR_RADIUS, MBOYAXIN_TR_MODEL, MBOYAXIN_TR_NORM, MBOYAXIN_TR_RATIO, MBOYAXIN_TR_NUMBERS },
-                         sr1 = { "SR1TrustRegion", MBOYAXIN_SR1_RADIUS, MBOYAXIN_SR1_PREDICTED, MBOYAXIN_SR1_NORM, MBOYAXIN_SR1_RATIO, MBOYAXIN_SR1_NUMBERS };
+struct kind { const char *name; };
+static const struct kind trustregion = { "TrustRegion" }, sr1 = { "SR1TrustRegion" };
 
 static word calls, said[2][SAYINGS], refused[2][9], promises[2], ratios[2];
 
@@ -38,13 +36,13 @@ static void see_refused(const struct kind *k, word refusal, word room) {
 
 /* The model value or P, and the ratio, may be the one NaN; no other number may be a NaN, and none that is written to a list. */
 static void see_taken(const struct kind *k) {
-    for (int i = 0; i < k->numbers; i++)
-        if (nan_bits(now.numbers[i].w)) see(k->name, i, now.numbers[i].w, i == k->promise || i == k->ratio ? ONE_NAN : 0);
-    for (word i = MBOYAXIN_WORDS + 10; i < CELLS; i++)
+    for (int i = 0; i < MBOYAXIN_NUMBERS; i++)
+        if (nan_bits(now.numbers[i].w)) see(k->name, i, now.numbers[i].w, i == MBOYAXIN_PROMISE || i == MBOYAXIN_RATIO ? ONE_NAN : 0);
+    for (word i = MBOYAXIN_WORDS + MBOYAXIN_NUMBERS; i < CELLS; i++)
         if (nan_bits(cells(&now)[i]) && cells(&now)[i] != cells(&was)[i]) see(k->name, i, cells(&now)[i], cells(&was)[i]);
     said[k == &sr1][now.words[MBOYAXIN_SAID]]++;
-    promises[k == &sr1] += nan_bits(now.numbers[k->promise].w);
-    ratios[k == &sr1] += nan_bits(now.numbers[k->ratio].w);
+    promises[k == &sr1] += nan_bits(now.numbers[MBOYAXIN_PROMISE].w);
+    ratios[k == &sr1] += nan_bits(now.numbers[MBOYAXIN_RATIO].w);
 }
 
 static word looked(const struct kind *k, word room, word refusal) {
@@ -56,30 +54,32 @@ static word looked(const struct kind *k, word room, word refusal) {
 
 /* ---- the calls, on the station */
 
+#define OWN now.words, &now.numbers[0].x, &now.settings[0].x
+
 static word room(word n) { return 2 * n * n + 8 * n; }
 
 static word started(const struct kind *k) {
     was = now;
-    return looked(k, 0, k == &sr1 ? mboyaxin_sr1_start(now.words, &now.numbers[0].x) : mboyaxin_trustregion_start(now.words, &now.numbers[0].x));
+    return looked(k, 0, k == &sr1 ? mboyaxin_sr1_start(OWN) : mboyaxin_trustregion_start(OWN));
 }
 
 static word proposed(const struct kind *k, word n) {
     was = now;
-    return looked(k, room(n), (k == &sr1 ? mboyaxin_sr1_propose : mboyaxin_trustregion_propose)(now.words, &now.numbers[0].x, n, &now.point[0].x, n,
+    return looked(k, room(n), (k == &sr1 ? mboyaxin_sr1_propose : mboyaxin_trustregion_propose)(OWN, n, &now.point[0].x, n,
         &now.gradient[0].x, n, &now.hessian[0].x, n * n, &now.step[0].x, n, &now.trial[0].x, n, &now.scratch[0].x, room(n)));
 }
 
 static word answered(const struct kind *k, word n, double cost) {
     was = now;
     return looked(k, k == &sr1 ? room(n) : 0, k == &sr1
-        ? mboyaxin_sr1_answer(now.words, &now.numbers[0].x, n, cost, &now.new_gradient[0].x, n, &now.point[0].x, n, &now.step[0].x, n,
+        ? mboyaxin_sr1_answer(OWN, n, cost, &now.new_gradient[0].x, n, &now.point[0].x, n, &now.step[0].x, n,
               &now.trial[0].x, n, &now.gradient[0].x, n, &now.hessian[0].x, n * n, &now.scratch[0].x, room(n))
-        : mboyaxin_trustregion_answer_cost(now.words, &now.numbers[0].x, n, cost, &now.point[0].x, n, &now.trial[0].x, n));
+        : mboyaxin_trustregion_answer_cost(OWN, n, cost, &now.point[0].x, n, &now.trial[0].x, n));
 }
 
 static word renewed(word n) {
     was = now;
-    return looked(&trustregion, 0, mboyaxin_trustregion_answer_derivatives(now.words, &now.numbers[0].x, n, &now.new_gradient[0].x, n,
+    return looked(&trustregion, 0, mboyaxin_trustregion_answer_derivatives(OWN, n, &now.new_gradient[0].x, n,
         &now.new_hessian[0].x, n * n, &now.gradient[0].x, n, &now.hessian[0].x, n * n));
 }
 
@@ -87,10 +87,10 @@ static word renewed(word n) {
 
 /* Good settings, and NaN in every list: what a call does not write must keep these bits. */
 static void station(const struct kind *k, word kernel, word phase) {
-    static const double settings[2][5] = { { 1.0, 100.0, 0.125, 1e-9, 0.0 }, { 1.0, 0.5e-3, 1e-8, 0.0, 1e-9 } };
-    now = (struct station){ .words = { kernel, 5, phase, 0, 0 } };
-    for (int i = 0; i < 5; i++) now.numbers[i].x = settings[k == &sr1][i];
-    for (word i = MBOYAXIN_WORDS + 10; i < CELLS; i++) cells(&now)[i] = sources[i % 4] + i;
+    static const double settings[2][MBOYAXIN_SR1_SETTINGS] = { { 1.0, 100.0, 0.125, 0.0 }, { 1.0, 0.5e-3, 1e-8, 0.0 } };
+    now = (struct station){ .words = { kernel, 5, phase, 0, 0 }, .numbers[MBOYAXIN_EPSILON].x = 1e-9 };
+    for (int i = 0; i < MBOYAXIN_SR1_SETTINGS; i++) now.settings[i].x = settings[k == &sr1][i];
+    for (word i = MBOYAXIN_WORDS + MBOYAXIN_NUMBERS + MBOYAXIN_SR1_SETTINGS; i < CELLS; i++) cells(&now)[i] = sources[i % 4] + i;
 }
 
 /* The k-th list of so many numbers out of some. */
@@ -124,9 +124,9 @@ static void see_proposals(const struct kind *k, word n, const double *from, word
                     fill(now.gradient, n, g, from, count);
                     fill(now.hessian, n * n, h, from, count);
                     for (word m = 0; m < n; m++) now.point[m].x = g % 2 ? 1.0 : 0.0;
-                    if (k == &sr1 && h % 2) now.numbers[MBOYAXIN_SR1_SET_TOL_GRAD].x = 1e-3; /* a session that is done */
-                    now.numbers[k->radius].x = radii[i / few];
-                    now.numbers[k->radius + 1].x = costs[i % few];
+                    if (k == &sr1 && h % 2) now.settings[MBOYAXIN_SR1_SET_TOL_GRAD].x = 1e-3; /* a session that is done */
+                    now.numbers[MBOYAXIN_RADIUS].x = radii[i / few];
+                    now.numbers[MBOYAXIN_COST].x = costs[i % few];
                     if (proposed(k, n) == 0 && now.words[MBOYAXIN_SAID] == MBOYAXIN_PROPOSED) see_answers(k, n);
                 }
 }
@@ -145,7 +145,7 @@ static void see_phases(const struct kind *k) {
     for (word i = 0; i < power(SOURCES, 5); i++) {
         word at = i;
         station(k, 1, MBOYAXIN_AWAITING_COST);
-        for (int j = 0; j < 4; j++, at /= SOURCES) now.numbers[k->radius + j].w = sources[at % SOURCES];
+        for (int j = 0; j < 4; j++, at /= SOURCES) now.numbers[MBOYAXIN_RADIUS + j].w = sources[at % SOURCES];
         now.step[0].x = now.trial[0].x = now.gradient[0].x = now.hessian[0].x = 1.0;
         now.new_gradient[0].x = 3.0;
         answered(k, 1, number(sources[at]));
@@ -158,10 +158,11 @@ static void see_starts(const struct kind *k) {
         word at = i;
         station(k, 1, MBOYAXIN_READY);
         for (int j = 0; j < 4; j++, at /= SOURCES) {
-            now.numbers[j].w = sources[at % SOURCES];
-            if (k == &sr1 ? j == 1 || j == 2 : j == 2) now.numbers[j].x /= 128.0;
+            cell *c = k == &sr1 || j < MBOYAXIN_TR_SETTINGS ? &now.settings[j] : &now.numbers[MBOYAXIN_EPSILON];
+            c->w = sources[at % SOURCES];
+            if (k == &sr1 ? j == 1 || j == 2 : j == 2) c->x /= 128.0;
         }
-        now.numbers[k->radius + 1].w = sources[at];
+        now.numbers[MBOYAXIN_COST].w = sources[at];
         started(k);
     }
 }
@@ -175,7 +176,7 @@ static void see_updates(void) {
         station(&sr1, 1, MBOYAXIN_AWAITING_COST);
         for (int j = 0; j < 4; j++, at /= SOURCES) lists[j][0].w = sources[at % SOURCES];
         now.trial[0].w = sources[at];
-        now.numbers[sr1.radius].x = now.numbers[sr1.promise].x = now.numbers[sr1.norm].x = 1.0;
+        now.numbers[MBOYAXIN_RADIUS].x = now.numbers[MBOYAXIN_PROMISE].x = now.numbers[MBOYAXIN_NORM].x = 1.0;
         answered(&sr1, 1, costs[i % 3]);
     }
     for (word i = 0; i < power(4, 10); i++) {
@@ -185,7 +186,7 @@ static void see_updates(void) {
         fill(now.hessian, 4, i >> 8, some, 4);
         fill(now.new_gradient, 2, i >> 16, some, 4);
         now.trial[0].x = now.trial[1].x = 1.0;
-        now.numbers[sr1.radius].x = now.numbers[sr1.promise].x = now.numbers[sr1.norm].x = 1.0;
+        now.numbers[MBOYAXIN_RADIUS].x = now.numbers[MBOYAXIN_PROMISE].x = now.numbers[MBOYAXIN_NORM].x = 1.0;
         answered(&sr1, 2, -1.0);
     }
 }
@@ -194,7 +195,7 @@ static void see_updates(void) {
 static void see_renewals(void) {
     for (word i = 0; i < power(SOURCES, 2); i++) {
         station(&trustregion, 1, MBOYAXIN_AWAITING_DERIVATIVES);
-        now.numbers[trustregion.radius].x = 1.0;
+        now.numbers[MBOYAXIN_RADIUS].x = 1.0;
         now.new_gradient[0].w = sources[i % SOURCES];
         now.new_hessian[0].w = sources[i / SOURCES];
         renewed(1);
@@ -209,9 +210,9 @@ static void see_out_of_turn(const struct kind *k) {
             for (int size = 0; size < 3; size++)
                 for (int call = 0; call < 3; call++) {
                     station(k, kernel, phases[phase]);
-                    now.numbers[k->radius].x = now.numbers[k->radius + 1].x = 1.0;
-                    now.numbers[k->promise].w = 0xfff8000000000001;
-                    now.numbers[k->norm].w = 0x7ff0000000000002;
+                    now.numbers[MBOYAXIN_RADIUS].x = now.numbers[MBOYAXIN_COST].x = 1.0;
+                    now.numbers[MBOYAXIN_PROMISE].w = 0xfff8000000000001;
+                    now.numbers[MBOYAXIN_NORM].w = 0x7ff0000000000002;
                     if (call == 0) proposed(k, sizes[size]);
                     else if (call == 1) answered(k, sizes[size], number(0xfff8000000000003));
                     else if (k == &trustregion) renewed(sizes[size]);

@@ -6,8 +6,7 @@ ghost use lib.Ieee.{binary64, isNan, ofBits, toBits};
 ghost use Rattle.float.specs.Numbers as Numbers;
 
 // Whether x is neither a NaN nor an infinity.
-#[no_mangle]
-pub extern "C" fn finite(x: f64) -> bool
+pub fn finite(x: f64) -> bool
     ensures { λ r. ⌜ r ≡ Numbers.finite x ⌝ }
 {
     let top = 1.0 / 0.0;
@@ -18,16 +17,14 @@ pub extern "C" fn finite(x: f64) -> bool
 }
 
 // A NaN, and nothing else, differs from itself.
-#[no_mangle]
-pub extern "C" fn is_nan(x: f64) -> bool
+pub fn is_nan(x: f64) -> bool
     ensures { λ r. ⌜ r ≡ isNan x ⌝ }
 {
     x != x
 }
 
 // Rust's x.abs().
-#[no_mangle]
-pub extern "C" fn magnitude(x: f64) -> f64
+pub fn magnitude(x: f64) -> f64
     ensures { λ r. ⌜ r ≡ Numbers.magnitude x ⌝ }
 {
     if x < 0.0 {
@@ -41,8 +38,7 @@ pub extern "C" fn magnitude(x: f64) -> f64
 }
 
 // Rust's x.min(y) for an x that is no NaN.
-#[no_mangle]
-pub extern "C" fn smaller(x: f64, y: f64) -> f64
+pub fn smaller(x: f64, y: f64) -> f64
     ensures { λ r. ⌜ r ≡ Numbers.smaller x y ⌝ }
 {
     if y < x {
@@ -53,16 +49,14 @@ pub extern "C" fn smaller(x: f64, y: f64) -> f64
 
 // x, and of all NaNs the one with bits 7ff8000000000000. Definitions know one NaN, a machine many:
 // this is the last thing that happens to a number that is handed out.
-#[no_mangle]
-pub extern "C" fn one_nan(x: f64) -> f64
+pub fn one_nan(x: f64) -> f64
     ensures { λ r. ⌜ r ≡ x ⌝ }
 {
     if x != x { 0.0 / 0.0 } else { x }
 }
 
 // The f64 of a bit pattern: the one NaN for every NaN's.
-#[no_mangle]
-pub extern "C" fn float_of(bits: u64) -> f64
+pub fn float_of(bits: u64) -> f64
     ensures { λ r. ⌜ r ≡ ofBits binary64 bits ⌝ }
 {
     if bits % 0x8000_0000_0000_0000 > 0x7ff0_0000_0000_0000 {
@@ -73,8 +67,7 @@ pub extern "C" fn float_of(bits: u64) -> f64
 }
 
 // The bit pattern of an f64: 7ff8000000000000 for every NaN.
-#[no_mangle]
-pub extern "C" fn bits_of(x: f64) -> u64
+pub fn bits_of(x: f64) -> u64
     ensures { λ r. ⌜ r ≡ toBits binary64 x ⌝ }
 {
     if x != x {

@@ -4,21 +4,11 @@ use mathlib.Core.List.{List}
 use Prim.Native.Nat.{ℕ}
 use lib.Ieee.{Float}
 use Rattle.vectors.specs.Refusal.{Answer, refused, given, stands-for, Wrote, Ended}
-use Rattle.vectors.specs.Calls.{tells}
 use Rattle.vectors.specs.declared.refusal.Outcome.{Outcome}
 use Rattle.vectors.specs.declared.refusal.Outcome.the-variants as out
-use Rattle.vectors.specs.declared.vector.Number.{Number}
-use Rattle.vectors.specs.declared.vector.Number.the-variants as found
 use Rattle.kernels.specs.Kernel.{Made, stepped, Took}
 use Rattle.kernels.specs.declared.kernel.Stepped.{Stepped}
-use Rattle.foreign.specs.Foreign.{code, shown, value, outcome, stepped-number, Filled, Cleared, Numbered}
-
-value-shown : (x : Number) → value x ≡ shown (tells x)
-value-shown (found.Is x) = refl
-value-shown (found.Refused r) = refl
-
-pub shows : (a : Answer Float) (x : Number) (r : Float) → tells x ≡ a → r ≡ value x → r ≡ shown a
-shows a x r e f = f ∙ value-shown x ∙ ap shown e
+use Rattle.foreign.specs.Foreign.{code, outcome, stepped-number, Filled, Cleared, Numbered}
 
 outcome-code : (o : Outcome) (v : List Float) → outcome o ≡ code (stands-for o v)
 outcome-code out.Written v = refl

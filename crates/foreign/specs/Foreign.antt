@@ -3,12 +3,9 @@ use mathlib.Core.Path.{_≡_}
 use mathlib.Core.List.{List}
 use Prim.Native.Nat.{ℕ}
 use lib.Ieee.{Float}
-use Rattle.float.specs.Constants.{nought}
 use Rattle.vectors.specs.Refusal.{Answer, refused, given, number, left-in, scratch-after}
 use Rattle.vectors.specs.declared.refusal.Outcome.{Outcome}
 use Rattle.vectors.specs.declared.refusal.Outcome.the-variants as out
-use Rattle.vectors.specs.declared.vector.Number.{Number}
-use Rattle.vectors.specs.declared.vector.Number.the-variants as found
 use Rattle.kernels.specs.Kernel.{Made}
 use Rattle.kernels.specs.declared.kernel.Stepped.{Stepped}
 use Rattle.kernels.specs.declared.kernel.Stepped.the-variants as step
@@ -18,16 +15,7 @@ abbrev pub code : {A : Type 0} → Answer A → ℕ
 code (refused r) = number r
 code (given a) = 0
 
--- a number that was refused is +0
-abbrev pub shown : Answer Float → Float
-shown (refused r) = nought
-shown (given x) = x
-
 -- the same of the enums that stand for answers
-abbrev pub value : Number → Float
-value (found.Is x) = x
-value (found.Refused r) = nought
-
 abbrev pub outcome : Outcome → ℕ
 outcome out.Written = 0
 outcome (out.Refused r) = number r
@@ -36,9 +24,10 @@ abbrev pub stepped-number : Stepped → ℕ
 stepped-number (step.In k) = 0
 stepped-number (step.Refused r) = number r
 
--- ---- each call: r is what it returns, the lists are those at entry, those with a prime at exit
+-- ---- each call: r is what it returns; what it is lent is that at entry, that with a prime at exit
 
-pub record Filled (answer : Answer (List Float)) (r : ℕ) (out out′ : List Float) : Type 0 where
+-- a number or a list goes where the call is told; a refusal leaves what stood there
+pub record Filled {A : Type 0} (answer : Answer A) (r : ℕ) (out out′ : A) : Type 0 where
   pub says : r ≡ code answer
   pub leaves : out′ ≡ left-in (λ v. v) answer out
 

@@ -1,12 +1,17 @@
-// The functions as C and Rust may call them. An enum cannot cross that border: a refusal is its number, 0 says that there is none,
-// and a number that was refused is +0. The benchmark times the kernels here, and what reads the bits of a NaN from outside calls the rest.
+// The functions as C and Rust may call them. All that a library exports stands here and in foreign_sessions, by a name that begins with
+// mboyaxin_. An enum cannot cross that border: what may be refused returns the refusal's number, 0 for none, and writes what it
+// gives where it is told, which a refusal leaves as it was. The benchmarks time the root and the kernels here, and what reads the bits of
+// a NaN from outside calls the rest.
 use kernels::kernel::Stepped;
 use vectors::refusal::Outcome;
 use vectors::vector::Number;
 ghost use mathlib.Core.Path.{_≡_};
 ghost use mathlib.Core.Bool.{true};
+ghost use lib.Ieee.{binary64, ofBits, toBits};
+ghost use Rattle.float.specs.Numbers as Numbers;
+ghost use Rattle.root.specs.Root as Root;
 ghost use Rattle.vectors.specs.Vector as Vector;
-ghost use Rattle.vectors.specs.Calls.{dot-answer, norm-answer, weighted-answer, product-answer};
+ghost use Rattle.vectors.specs.Calls.{tells, dot-answer, norm-answer, weighted-answer, product-answer};
 ghost use Rattle.kernels.specs.Ratio.{reduction-ratio};
 ghost use Rattle.kernels.specs.Kernel.{called, bounded};
 ghost use Rattle.kernels.specs.CauchyPoint.{cauchy-point};
@@ -14,38 +19,91 @@ ghost use Rattle.kernels.specs.Dogleg.{dogleg};
 ghost use Rattle.kernels.specs.Steihaug.{steihaug};
 ghost use Rattle.kernels.specs.Inverse.{inverse-answer};
 ghost use Rattle.foreign.specs.Foreign as Foreign;
-ghost use Rattle.foreign.specs.Foreign.{shown, Numbered, Filled, Cleared};
+ghost use Rattle.foreign.specs.Foreign.{Numbered, Filled, Cleared};
 
-// ---- numbers
+// ---- scalars
 
-fn value(found: Number) -> f64
-    ensures { λ r. ⌜ r ≡ Foreign.value found ⌝ }
+#[no_mangle]
+pub extern "C" fn mboyaxin_root(x: f64) -> f64
+    ensures { λ r. ⌜ r ≡ Root.root x ⌝ }
+{
+    root::root(x)
+}
+
+#[no_mangle]
+pub extern "C" fn mboyaxin_magnitude(x: f64) -> f64
+    ensures { λ r. ⌜ r ≡ Numbers.magnitude x ⌝ }
+{
+    float::magnitude(x)
+}
+
+#[no_mangle]
+pub extern "C" fn mboyaxin_smaller(x: f64, y: f64) -> f64
+    ensures { λ r. ⌜ r ≡ Numbers.smaller x y ⌝ }
+{
+    float::smaller(x, y)
+}
+
+#[no_mangle]
+pub extern "C" fn mboyaxin_one_nan(x: f64) -> f64
+    ensures { λ r. ⌜ r ≡ x ⌝ }
+{
+    float::one_nan(x)
+}
+
+#[no_mangle]
+pub extern "C" fn mboyaxin_float_of(bits: u64) -> f64
+    ensures { λ r. ⌜ r ≡ ofBits binary64 bits ⌝ }
+{
+    float::float_of(bits)
+}
+
+#[no_mangle]
+pub extern "C" fn mboyaxin_bits_of(x: f64) -> u64
+    ensures { λ r. ⌜ r ≡ toBits binary64 x ⌝ }
+{
+    float::bits_of(x)
+}
+
+// ---- numbers of lists
+
+fn write(found: Number, out: &mut f64) -> u64
+    ensures { λ r. ⌜ Filled (tells found) r (now (out .entry)) (now (out .exit)) ⌝ }
 {
     match found {
-        Number::Is(x) => x,
-        Number::Refused(_) => 0.0,
+        Number::Is(x) => {
+            *out = x;
+            0
+        }
+        Number::Refused(r) => vectors::refusal::number(r),
     }
 }
 
 #[no_mangle]
-pub extern "C" fn mboyaxin_dot(n: usize, a: &[f64], b: &[f64]) -> f64
-    ensures { λ r. ⌜ r ≡ shown (dot-answer n (now (a .entry)) (now (b .entry))) ⌝ }
+pub extern "C" fn mboyaxin_dot(n: usize, a: &[f64], b: &[f64], out: &mut f64) -> u64
+    ensures { λ r. ⌜ Filled (dot-answer n (now (a .entry)) (now (b .entry))) r (now (out .entry)) (now (out .exit)) ⌝ }
 {
-    value(vectors::vector::dot(n, a, b))
+    write(vectors::vector::dot(n, a, b), out)
 }
 
 #[no_mangle]
-pub extern "C" fn mboyaxin_norm(n: usize, a: &[f64]) -> f64
-    ensures { λ r. ⌜ r ≡ shown (norm-answer n (now (a .entry))) ⌝ }
+pub extern "C" fn mboyaxin_norm(n: usize, a: &[f64], out: &mut f64) -> u64
+    ensures { λ r. ⌜ Filled (norm-answer n (now (a .entry))) r (now (out .entry)) (now (out .exit)) ⌝ }
 {
-    value(vectors::vector::norm(n, a))
+    write(vectors::vector::norm(n, a), out)
 }
 
 #[no_mangle]
-pub extern "C" fn mboyaxin_weighted_dot(n: usize, a: &[f64], h: &[f64], b: &[f64]) -> f64
-    ensures { λ r. ⌜ r ≡ shown (weighted-answer n (now (a .entry)) (now (h .entry)) (now (b .entry))) ⌝ }
+pub extern "C" fn mboyaxin_weighted_dot(
+    n: usize,
+    a: &[f64],
+    h: &[f64],
+    b: &[f64],
+    out: &mut f64,
+) -> u64
+    ensures { λ r. ⌜ Filled (weighted-answer n (now (a .entry)) (now (h .entry)) (now (b .entry))) r (now (out .entry)) (now (out .exit)) ⌝ }
 {
-    value(vectors::vector::weighted_dot(n, a, h, b))
+    write(vectors::vector::weighted_dot(n, a, h, b), out)
 }
 
 #[no_mangle]

@@ -1,12 +1,7 @@
-// An SR1TrustRegion session in lists.
-// Words: kernel, limit; the phase (0 ready, 1 awaiting a cost); what the last call said (0 started, 1 proposed, 2 accepted,
-// 3 rejected, 5 done); the passes of a proposal.
-// Numbers: the settings' radius, eta, factor, tol_grad and epsilon; radius and cost; while a cost is awaited the predicted fall
-// and the step norm; the ratio of a verdict. What a call does not tell is 0.
+// An SR1TrustRegion session in lists. Its own settings: radius, eta, factor, tol_grad. It awaits no derivatives.
+use crate::Held;
 use crate::Said;
 use crate::Turn;
-use crate::kernel_of;
-use kernels::choice::Choice;
 use sr1::session::After;
 use sr1::session::Outcome;
 use sr1::session::Phase;
@@ -17,58 +12,55 @@ use sr1::sr1_trustregion;
 ghost use mathlib.Core.Path.{_≡_};
 ghost use mathlib.Core.Bool.{true};
 ghost use Rattle.sr1.specs.Settings.{chosen};
-ghost use Rattle.sr1.specs.Session as By-value;
 ghost use Rattle.sr1.specs.Session.{proposal, judgement};
-ghost use Rattle.sr1.specs.Calls.{begun, Proposes, Judges};
-ghost use Rattle.foreign_sessions.specs.Lists.{told};
+ghost use Rattle.sr1.specs.Calls.{Proposes, Judges};
+ghost use Rattle.foreign_sessions.specs.Lists.{told, held-in};
 ghost use Rattle.foreign_sessions.specs.Sr1 as Definition;
-ghost use Rattle.foreign_sessions.specs.Sr1.{settings-of, cost-of, session-of, kept, began, Driven};
+ghost use Rattle.foreign_sessions.specs.Sr1.{session-of, begins, began, Driven};
 
 // ---- from lists
 
-fn session_of(phase_known: bool, words: &[u64; 5], numbers: &[f64; 10]) -> Session
-    ensures { λ r. ⌜ r ≡ session-of «phase_known» (now (words .entry)) (now (numbers .entry)) ⌝ }
+fn session_of(held: Held, settings: &[f64; 4]) -> Session
+    ensures { λ r. ⌜ r ≡ session-of held (now (settings .entry)) ⌝ }
 {
-    let kernel = kernel_of(words[0], phase_known);
-    let phase = phase_of(words[2], numbers[7], numbers[8]);
+    let choice = held.0;
+    let phase = phase_of(held.3);
     Session {
         settings: Settings {
-            choice: Choice {
-                kernel: kernel,
-                epsilon: numbers[4],
-                limit: words[1],
-            },
-            radius: numbers[0],
-            eta: numbers[1],
-            factor: numbers[2],
-            tol_grad: numbers[3],
+            choice: choice,
+            radius: settings[0],
+            eta: settings[1],
+            factor: settings[2],
+            tol_grad: settings[3],
         },
-        radius: numbers[5],
-        cost: numbers[6],
+        radius: held.1,
+        cost: held.2,
         phase: phase,
     }
 }
 
-fn phase_of(phase: u64, predicted: f64, norm: f64) -> Phase
-    ensures { λ r. ⌜ r ≡ Definition.phase-of phase predicted norm ⌝ }
+fn phase_of(turn: Turn) -> Phase
+    ensures { λ r. ⌜ r ≡ Definition.phase-of turn ⌝ }
 {
-    if phase == 0 {
+    if turn.0 == 0 {
         Phase::Ready
     } else {
-        Phase::AwaitingCost(predicted, norm)
+        Phase::AwaitingCost(turn.1, turn.2)
     }
 }
 
 // ---- into lists
 
-fn turn_of(s: Session) -> Turn
-    ensures { λ r. ⌜ r ≡ Definition.turn-of (s .phase) ⌝ }
+fn held_by(s: Session) -> Held
+    ensures { λ r. ⌜ r ≡ Definition.held-by s ⌝ }
 {
+    let choice = s.settings.choice;
     let phase = s.phase;
-    match phase {
+    let turn = match phase {
         Phase::Ready => Turn(0, 0.0, 0.0),
         Phase::AwaitingCost(predicted, norm) => Turn(1, predicted, norm),
-    }
+    };
+    Held(choice, s.radius, s.cost, turn)
 }
 
 fn said_of(after: After) -> Said
@@ -84,58 +76,31 @@ fn said_of(after: After) -> Said
     }
 }
 
-// A refusal writes nothing: the lists keep their bits.
-fn keep(s: Session, said: Said, words: &mut [u64; 5], numbers: &mut [f64; 10]) -> u64
-    ensures { λ r. ⌜ told r (now (words .exit)) (now (numbers .exit)) ≡ kept (now (words .entry)) (now (numbers .entry)) s said ⌝ }
-{
-    match said {
-        Said::Refused(r) => vectors::refusal::number(r),
-        Said::Kept(number, passes, ratio) => {
-            let turn = turn_of(s);
-            *words = [
-                s.settings.choice.kernel,
-                s.settings.choice.limit,
-                turn.0,
-                number,
-                passes,
-            ];
-            *numbers = [
-                s.settings.radius,
-                s.settings.eta,
-                s.settings.factor,
-                s.settings.tol_grad,
-                s.settings.choice.epsilon,
-                s.radius,
-                s.cost,
-                turn.1,
-                turn.2,
-                ratio,
-            ];
-            0
-        }
-    }
-}
-
 // ---- the calls
 
-// The settings and the cost are read; what else the lists held is not looked at.
+// Settings and cost are read; what else the lists held is not looked at.
 #[no_mangle]
-pub extern "C" fn mboyaxin_sr1_start(words: &mut [u64; 5], numbers: &mut [f64; 10]) -> u64
+pub extern "C" fn mboyaxin_sr1_start(
+    words: &mut [u64; 5],
+    numbers: &mut [f64; 6],
+    settings: &[f64; 4],
+) -> u64
     ensures { λ r. ⌜ told r (now (words .exit)) (now (numbers .exit))
-        ≡ began (now (words .entry)) (now (numbers .entry)) (begun (By-value.start (settings-of true (now (words .entry)) (now (numbers .entry))) (cost-of (now (numbers .entry))))) ⌝ }
+        ≡ began (now (words .entry)) (now (numbers .entry)) (begins (session-of (held-in true (now (words .entry)) (now (numbers .entry))) (now (settings .entry)))) ⌝ }
 {
-    let given = session_of(true, words, numbers);
+    let given = session_of(crate::held_in(true, words, numbers), settings);
     let start = sr1_trustregion::start(given.settings, given.cost);
     match start {
         Start::Refused(r) => vectors::refusal::number(r),
-        Start::Started(s) => keep(s, Said::Kept(0, 0, 0.0), words, numbers),
+        Start::Started(s) => crate::keep(held_by(s), Said::Kept(0, 0, 0.0), words, numbers),
     }
 }
 
 #[no_mangle]
 pub extern "C" fn mboyaxin_sr1_propose(
     words: &mut [u64; 5],
-    numbers: &mut [f64; 10],
+    numbers: &mut [f64; 6],
+    settings: &[f64; 4],
     n: usize,
     point: &[f64],
     gradient: &[f64],
@@ -144,19 +109,20 @@ pub extern "C" fn mboyaxin_sr1_propose(
     trial: &mut [f64],
     scratch: &mut [f64],
 ) -> u64
-    ensures { λ r. ⌜ Driven (now (words .entry)) (now (numbers .entry)) (λ s after. Proposes (proposal chosen s n (now (point .entry)) (now (gradient .entry)) (now (hessian .entry)) (now (step .entry)) (now (trial .entry)) (now (scratch .entry)))
+    ensures { λ r. ⌜ Driven (now (words .entry)) (now (numbers .entry)) (now (settings .entry)) (λ s after. Proposes (proposal chosen s n (now (point .entry)) (now (gradient .entry)) (now (hessian .entry)) (now (step .entry)) (now (trial .entry)) (now (scratch .entry)))
         s (now (step .entry)) (now (trial .entry)) (now (scratch .entry)) after (now (step .exit)) (now (trial .exit)) (now (scratch .exit)))
         (told r (now (words .exit)) (now (numbers .exit))) ⌝ }
 {
-    let s = session_of(words[2] <= 1, words, numbers);
+    let s = session_of(crate::held_in(words[2] <= 1, words, numbers), settings);
     let after = sr1_trustregion::proposed(s, n, point, gradient, hessian, step, trial, scratch);
-    keep(after.session, said_of(after), words, numbers)
+    crate::keep(held_by(after.session), said_of(after), words, numbers)
 }
 
 #[no_mangle]
 pub extern "C" fn mboyaxin_sr1_answer(
     words: &mut [u64; 5],
-    numbers: &mut [f64; 10],
+    numbers: &mut [f64; 6],
+    settings: &[f64; 4],
     n: usize,
     cost: f64,
     new_gradient: &[f64],
@@ -167,11 +133,11 @@ pub extern "C" fn mboyaxin_sr1_answer(
     hessian: &mut [f64],
     scratch: &mut [f64],
 ) -> u64
-    ensures { λ r. ⌜ Driven (now (words .entry)) (now (numbers .entry)) (λ s after. Judges (judgement s n cost (now («new_gradient» .entry)) (now (point .entry)) (now (step .entry)) (now (trial .entry)) (now (gradient .entry)) (now (hessian .entry)) (now (scratch .entry)))
+    ensures { λ r. ⌜ Driven (now (words .entry)) (now (numbers .entry)) (now (settings .entry)) (λ s after. Judges (judgement s n cost (now («new_gradient» .entry)) (now (point .entry)) (now (step .entry)) (now (trial .entry)) (now (gradient .entry)) (now (hessian .entry)) (now (scratch .entry)))
         s (now (point .entry)) (now (gradient .entry)) (now (hessian .entry)) (now (scratch .entry)) after (now (point .exit)) (now (gradient .exit)) (now (hessian .exit)) (now (scratch .exit)))
         (told r (now (words .exit)) (now (numbers .exit))) ⌝ }
 {
-    let s = session_of(words[2] <= 1, words, numbers);
+    let s = session_of(crate::held_in(words[2] <= 1, words, numbers), settings);
     let after = sr1_trustregion::judged(
         s,
         n,
@@ -184,5 +150,5 @@ pub extern "C" fn mboyaxin_sr1_answer(
         hessian,
         scratch,
     );
-    keep(after.session, said_of(after), words, numbers)
+    crate::keep(held_by(after.session), said_of(after), words, numbers)
 }

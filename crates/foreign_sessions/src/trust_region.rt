@@ -1,12 +1,7 @@
-// A TrustRegion session in lists.
-// Words: kernel, limit; the phase (0 ready, 1 awaiting a cost, 2 awaiting derivatives); what the last call said (0 started,
-// 1 proposed, 2 accepted, 3 rejected, 4 taken); the passes of a proposal.
-// Numbers: the settings' radius, max_radius, eta and epsilon; radius and cost; while a cost is awaited the model value and the
-// step norm; the ratio of a verdict. What a call does not tell is 0.
+// A TrustRegion session in lists. Its own settings: radius, max_radius, eta.
+use crate::Held;
 use crate::Said;
 use crate::Turn;
-use crate::kernel_of;
-use kernels::choice::Choice;
 use trustregion::session::After;
 use trustregion::session::Outcome;
 use trustregion::session::Phase;
@@ -17,60 +12,57 @@ use trustregion::trustregion_method;
 ghost use mathlib.Core.Path.{_≡_};
 ghost use mathlib.Core.Bool.{true};
 ghost use Rattle.trustregion.specs.Settings.{chosen};
-ghost use Rattle.trustregion.specs.Session as By-value;
 ghost use Rattle.trustregion.specs.Session.{proposal, judgement, renewal};
-ghost use Rattle.trustregion.specs.Calls.{begun, Proposes, Judges, Renews};
-ghost use Rattle.foreign_sessions.specs.Lists.{told};
+ghost use Rattle.trustregion.specs.Calls.{Proposes, Judges, Renews};
+ghost use Rattle.foreign_sessions.specs.Lists.{told, held-in};
 ghost use Rattle.foreign_sessions.specs.TrustRegion as Definition;
-ghost use Rattle.foreign_sessions.specs.TrustRegion.{settings-of, cost-of, session-of, kept, began, Driven};
+ghost use Rattle.foreign_sessions.specs.TrustRegion.{session-of, begins, began, Driven};
 
 // ---- from lists
 
-fn session_of(phase_known: bool, words: &[u64; 5], numbers: &[f64; 9]) -> Session
-    ensures { λ r. ⌜ r ≡ session-of «phase_known» (now (words .entry)) (now (numbers .entry)) ⌝ }
+fn session_of(held: Held, settings: &[f64; 3]) -> Session
+    ensures { λ r. ⌜ r ≡ session-of held (now (settings .entry)) ⌝ }
 {
-    let kernel = kernel_of(words[0], phase_known);
-    let phase = phase_of(words[2], numbers[6], numbers[7]);
+    let choice = held.0;
+    let phase = phase_of(held.3);
     Session {
         settings: Settings {
-            choice: Choice {
-                kernel: kernel,
-                epsilon: numbers[3],
-                limit: words[1],
-            },
-            radius: numbers[0],
-            max_radius: numbers[1],
-            eta: numbers[2],
+            choice: choice,
+            radius: settings[0],
+            max_radius: settings[1],
+            eta: settings[2],
         },
-        radius: numbers[4],
-        cost: numbers[5],
+        radius: held.1,
+        cost: held.2,
         phase: phase,
     }
 }
 
-fn phase_of(phase: u64, model: f64, norm: f64) -> Phase
-    ensures { λ r. ⌜ r ≡ Definition.phase-of phase model norm ⌝ }
+fn phase_of(turn: Turn) -> Phase
+    ensures { λ r. ⌜ r ≡ Definition.phase-of turn ⌝ }
 {
-    if phase == 0 {
+    if turn.0 == 0 {
         return Phase::Ready;
     }
-    if phase == 1 {
-        return Phase::AwaitingCost(model, norm);
+    if turn.0 == 1 {
+        return Phase::AwaitingCost(turn.1, turn.2);
     }
     Phase::AwaitingDerivatives
 }
 
 // ---- into lists
 
-fn turn_of(s: Session) -> Turn
-    ensures { λ r. ⌜ r ≡ Definition.turn-of (s .phase) ⌝ }
+fn held_by(s: Session) -> Held
+    ensures { λ r. ⌜ r ≡ Definition.held-by s ⌝ }
 {
+    let choice = s.settings.choice;
     let phase = s.phase;
-    match phase {
+    let turn = match phase {
         Phase::Ready => Turn(0, 0.0, 0.0),
         Phase::AwaitingCost(model, norm) => Turn(1, model, norm),
         Phase::AwaitingDerivatives => Turn(2, 0.0, 0.0),
-    }
+    };
+    Held(choice, s.radius, s.cost, turn)
 }
 
 fn said_of(after: After) -> Said
@@ -86,57 +78,31 @@ fn said_of(after: After) -> Said
     }
 }
 
-// A refusal writes nothing: the lists keep their bits.
-fn keep(s: Session, said: Said, words: &mut [u64; 5], numbers: &mut [f64; 9]) -> u64
-    ensures { λ r. ⌜ told r (now (words .exit)) (now (numbers .exit)) ≡ kept (now (words .entry)) (now (numbers .entry)) s said ⌝ }
-{
-    match said {
-        Said::Refused(r) => vectors::refusal::number(r),
-        Said::Kept(number, passes, ratio) => {
-            let turn = turn_of(s);
-            *words = [
-                s.settings.choice.kernel,
-                s.settings.choice.limit,
-                turn.0,
-                number,
-                passes,
-            ];
-            *numbers = [
-                s.settings.radius,
-                s.settings.max_radius,
-                s.settings.eta,
-                s.settings.choice.epsilon,
-                s.radius,
-                s.cost,
-                turn.1,
-                turn.2,
-                ratio,
-            ];
-            0
-        }
-    }
-}
-
 // ---- the calls
 
-// The settings and the cost are read; what else the lists held is not looked at.
+// Settings and cost are read; what else the lists held is not looked at.
 #[no_mangle]
-pub extern "C" fn mboyaxin_trustregion_start(words: &mut [u64; 5], numbers: &mut [f64; 9]) -> u64
+pub extern "C" fn mboyaxin_trustregion_start(
+    words: &mut [u64; 5],
+    numbers: &mut [f64; 6],
+    settings: &[f64; 3],
+) -> u64
     ensures { λ r. ⌜ told r (now (words .exit)) (now (numbers .exit))
-        ≡ began (now (words .entry)) (now (numbers .entry)) (begun (By-value.start (settings-of true (now (words .entry)) (now (numbers .entry))) (cost-of (now (numbers .entry))))) ⌝ }
+        ≡ began (now (words .entry)) (now (numbers .entry)) (begins (session-of (held-in true (now (words .entry)) (now (numbers .entry))) (now (settings .entry)))) ⌝ }
 {
-    let given = session_of(true, words, numbers);
+    let given = session_of(crate::held_in(true, words, numbers), settings);
     let start = trustregion_method::start(given.settings, given.cost);
     match start {
         Start::Refused(r) => vectors::refusal::number(r),
-        Start::Started(s) => keep(s, Said::Kept(0, 0, 0.0), words, numbers),
+        Start::Started(s) => crate::keep(held_by(s), Said::Kept(0, 0, 0.0), words, numbers),
     }
 }
 
 #[no_mangle]
 pub extern "C" fn mboyaxin_trustregion_propose(
     words: &mut [u64; 5],
-    numbers: &mut [f64; 9],
+    numbers: &mut [f64; 6],
+    settings: &[f64; 3],
     n: usize,
     point: &[f64],
     gradient: &[f64],
@@ -145,47 +111,49 @@ pub extern "C" fn mboyaxin_trustregion_propose(
     trial: &mut [f64],
     scratch: &mut [f64],
 ) -> u64
-    ensures { λ r. ⌜ Driven (now (words .entry)) (now (numbers .entry)) (λ s after. Proposes (proposal chosen s n (now (point .entry)) (now (gradient .entry)) (now (hessian .entry)) (now (step .entry)) (now (trial .entry)) (now (scratch .entry)))
+    ensures { λ r. ⌜ Driven (now (words .entry)) (now (numbers .entry)) (now (settings .entry)) (λ s after. Proposes (proposal chosen s n (now (point .entry)) (now (gradient .entry)) (now (hessian .entry)) (now (step .entry)) (now (trial .entry)) (now (scratch .entry)))
         s (now (step .entry)) (now (trial .entry)) (now (scratch .entry)) after (now (step .exit)) (now (trial .exit)) (now (scratch .exit)))
         (told r (now (words .exit)) (now (numbers .exit))) ⌝ }
 {
-    let s = session_of(words[2] <= 2, words, numbers);
+    let s = session_of(crate::held_in(words[2] <= 2, words, numbers), settings);
     let after = trustregion_method::proposed(s, n, point, gradient, hessian, step, trial, scratch);
-    keep(after.session, said_of(after), words, numbers)
+    crate::keep(held_by(after.session), said_of(after), words, numbers)
 }
 
 #[no_mangle]
 pub extern "C" fn mboyaxin_trustregion_answer_cost(
     words: &mut [u64; 5],
-    numbers: &mut [f64; 9],
+    numbers: &mut [f64; 6],
+    settings: &[f64; 3],
     n: usize,
     cost: f64,
     point: &mut [f64],
     trial: &[f64],
 ) -> u64
-    ensures { λ r. ⌜ Driven (now (words .entry)) (now (numbers .entry)) (λ s after. Judges (judgement s n cost (now (point .entry)) (now (trial .entry))) s (now (point .entry)) after (now (point .exit)))
+    ensures { λ r. ⌜ Driven (now (words .entry)) (now (numbers .entry)) (now (settings .entry)) (λ s after. Judges (judgement s n cost (now (point .entry)) (now (trial .entry))) s (now (point .entry)) after (now (point .exit)))
         (told r (now (words .exit)) (now (numbers .exit))) ⌝ }
 {
-    let s = session_of(words[2] <= 2, words, numbers);
+    let s = session_of(crate::held_in(words[2] <= 2, words, numbers), settings);
     let after = trustregion_method::judged(s, n, cost, point, trial);
-    keep(after.session, said_of(after), words, numbers)
+    crate::keep(held_by(after.session), said_of(after), words, numbers)
 }
 
 #[no_mangle]
 pub extern "C" fn mboyaxin_trustregion_answer_derivatives(
     words: &mut [u64; 5],
-    numbers: &mut [f64; 9],
+    numbers: &mut [f64; 6],
+    settings: &[f64; 3],
     n: usize,
     new_gradient: &[f64],
     new_hessian: &[f64],
     gradient: &mut [f64],
     hessian: &mut [f64],
 ) -> u64
-    ensures { λ r. ⌜ Driven (now (words .entry)) (now (numbers .entry)) (λ s after. Renews (renewal s n (now («new_gradient» .entry)) (now («new_hessian» .entry)) (now (gradient .entry)) (now (hessian .entry)))
+    ensures { λ r. ⌜ Driven (now (words .entry)) (now (numbers .entry)) (now (settings .entry)) (λ s after. Renews (renewal s n (now («new_gradient» .entry)) (now («new_hessian» .entry)) (now (gradient .entry)) (now (hessian .entry)))
         s (now (gradient .entry)) (now (hessian .entry)) after (now (gradient .exit)) (now (hessian .exit)))
         (told r (now (words .exit)) (now (numbers .exit))) ⌝ }
 {
-    let s = session_of(words[2] <= 2, words, numbers);
+    let s = session_of(crate::held_in(words[2] <= 2, words, numbers), settings);
     let after = trustregion_method::renewed(s, n, new_gradient, new_hessian, gradient, hessian);
-    keep(after.session, said_of(after), words, numbers)
+    crate::keep(held_by(after.session), said_of(after), words, numbers)
 }

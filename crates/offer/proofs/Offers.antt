@@ -25,7 +25,7 @@ use Rattle.kernels.proofs.Choices.{kernel-proper}
 use Rattle.offer.specs.Offer.{all-sized, offered, offer, step-checks, stepping}
 use Rattle.offer.specs.Calls.{replaced, offering, measured, Offers}
 use Rattle.offer.specs.declared.Offered.{Offered}
-use Rattle.offer.specs.declared.Offered.the-variants.{Refused, Step}
+use Rattle.offer.specs.declared.Offered.the-variants.{Refused}
 use Rattle.offer.proofs.Lengths.{lent-true, copied}
 
 -- ---- a step that was laid out

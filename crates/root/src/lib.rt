@@ -67,8 +67,7 @@ fn root_bits(b: u64) -> u64
 
 // The f64 nearest to the root of x. Zero keeps its sign, the infinity is its own root, and a NaN or a
 // number below zero gives the NaN.
-#[no_mangle]
-pub extern "C" fn root(x: f64) -> f64
+pub fn root(x: f64) -> f64
     ensures { λ r. ⌜ r ≡ Root.root x ⌝ }
 {
     if x > 0.0 {

@@ -11,7 +11,6 @@ use borrow.Author.Tests.{eqb-true}
 use Rattle.float.specs.Numbers.{finite}
 use Rattle.vectors.specs.Vector.{all-finite}
 use Rattle.vectors.specs.Refusal.{Answer, refused, given, Check, _if_, then, judged, all-hold, size, sized}
-use Rattle.kernels.specs.Kernel.{positive}
 use Rattle.kernels.specs.Choice as Choice
 use Rattle.vectors.specs.declared.refusal.Refusal.{Refusal}
 use Rattle.vectors.specs.declared.refusal.Refusal.the-variants.{Size, Setting, Turn, Entry, Range}

@@ -6,9 +6,15 @@ use Rattle.foreign.proofs as foreign
 
 pub table : List Line
 table =
-    equation foreign.«mboyaxin_dot».ended (λ M. foreign.«mboyaxin_dot».spec) (λ w κs a g r. refl) (λ κs a s s₂. refl)
-    ∷ equation foreign.«mboyaxin_norm».ended (λ M. foreign.«mboyaxin_norm».spec) (λ w κs a g r. refl) (λ κs a s s₂. refl)
-    ∷ equation foreign.«mboyaxin_weighted_dot».ended (λ M. foreign.«mboyaxin_weighted_dot».spec) (λ w κs a g r. refl) (λ κs a s s₂. refl)
+    equation foreign.«mboyaxin_root».ended (λ M. foreign.«mboyaxin_root».spec) (λ w κs a g r. refl) (λ κs a s s₂. refl)
+    ∷ equation foreign.«mboyaxin_magnitude».ended (λ M. foreign.«mboyaxin_magnitude».spec) (λ w κs a g r. refl) (λ κs a s s₂. refl)
+    ∷ equation foreign.«mboyaxin_smaller».ended (λ M. foreign.«mboyaxin_smaller».spec) (λ w κs a g r. refl) (λ κs a s s₂. refl)
+    ∷ equation foreign.«mboyaxin_one_nan».ended (λ M. foreign.«mboyaxin_one_nan».spec) (λ w κs a g r. refl) (λ κs a s s₂. refl)
+    ∷ equation foreign.«mboyaxin_float_of».ended (λ M. foreign.«mboyaxin_float_of».spec) (λ w κs a g r. refl) (λ κs a s s₂. refl)
+    ∷ equation foreign.«mboyaxin_bits_of».ended (λ M. foreign.«mboyaxin_bits_of».spec) (λ w κs a g r. refl) (λ κs a s s₂. refl)
+    ∷ unique foreign.«mboyaxin_dot».ended (λ M. foreign.«mboyaxin_dot».spec) (λ w κs a g r. refl) (λ κs a r r₂ s s₂ p q. (alike (p .says) (q .says), λ i. tt & tt & tt & alike (p .leaves) (q .leaves) i & tt))
+    ∷ unique foreign.«mboyaxin_norm».ended (λ M. foreign.«mboyaxin_norm».spec) (λ w κs a g r. refl) (λ κs a r r₂ s s₂ p q. (alike (p .says) (q .says), λ i. tt & tt & alike (p .leaves) (q .leaves) i & tt))
+    ∷ unique foreign.«mboyaxin_weighted_dot».ended (λ M. foreign.«mboyaxin_weighted_dot».spec) (λ w κs a g r. refl) (λ κs a r r₂ s s₂ p q. (alike (p .says) (q .says), λ i. tt & tt & tt & tt & alike (p .leaves) (q .leaves) i & tt))
     ∷ equation foreign.«mboyaxin_dot_any».ended (λ M. foreign.«mboyaxin_dot_any».spec) (λ w κs a g r. refl) (λ κs a s s₂. refl)
     ∷ equation foreign.«mboyaxin_norm_any».ended (λ M. foreign.«mboyaxin_norm_any».spec) (λ w κs a g r. refl) (λ κs a s s₂. refl)
     ∷ equation foreign.«mboyaxin_reduction_ratio».ended (λ M. foreign.«mboyaxin_reduction_ratio».spec) (λ w κs a g r. refl) (λ κs a s s₂. refl)
