@@ -1,8 +1,13 @@
 // The calls that both kinds of session have, and what happened in each.
+use crate::event::Awaits;
 use crate::event::Event;
 use crate::script::Script;
 use crate::sr1_session;
 use crate::trust_region;
+use offer::state;
+use offer::state::Outcome;
+use offer::state::Phase;
+use offer::state::State;
 
 pub(crate) enum Session {
     TrustRegion(trustregion::session::Session),
@@ -80,28 +85,66 @@ pub(crate) fn gradient(before: After, n: usize) -> usize {
     }
 }
 
-// As a caller can change what is its own.
-pub(crate) fn changed(before: After, to: Change) -> After {
-    let session = before.session;
-    match session {
-        Session::TrustRegion(s) => trust_region::changed(s, to),
-        Session::Sr1(s) => sr1_session::changed(s, to),
+// What a call said; `cost` is that of a trial, `radius` the one afterwards.
+pub(crate) fn said(outcome: Outcome, cost: f64, radius: f64) -> Event {
+    match outcome {
+        Outcome::Refused(r) => Event::Refused(r),
+        Outcome::Done => Event::Done,
+        Outcome::Proposed(passes) => Event::Proposed(passes),
+        Outcome::Accepted(ratio) => Event::Judged(true, cost, ratio, radius),
+        Outcome::Rejected(ratio) => Event::Judged(false, cost, ratio, radius),
+        Outcome::Taken => Event::Taken,
+    }
+}
+
+fn phase_of(to: Change) -> Phase {
+    let number = to.phase;
+    match number {
+        0 => Phase::Ready,
+        1 => Phase::AwaitingCost(to.a, to.b),
+        _ => Phase::AwaitingDerivatives,
     }
 }
 
 // A change is none where its kind of session has no phase of that number.
-pub(crate) fn event_of(to: Change, last: u64) -> Event {
+fn event_of(to: Change, last: u64) -> Event {
     if last < to.phase {
         return Event::Bad;
     }
     Event::Changed
 }
 
+// As a caller can change what is its own.
+pub(crate) fn changed(before: After, to: Change) -> After {
+    let session = before.session;
+    let phase = phase_of(to);
+    match session {
+        Session::TrustRegion(s) => {
+            let state = state::moved(s.state, to.radius, to.cost, phase);
+            trust_region::happened(s.settings, state, event_of(to, 2))
+        }
+        Session::Sr1(s) => {
+            let state = state::moved(s.state, to.radius, to.cost, phase);
+            sr1_session::happened(s.settings, state, event_of(to, 1))
+        }
+    }
+}
+
+fn ending(state: State) -> Event {
+    let phase = state.phase;
+    let awaits = match phase {
+        Phase::Ready => Awaits::Proposal,
+        Phase::AwaitingCost(promise, norm) => Awaits::Cost(promise, norm),
+        Phase::AwaitingDerivatives => Awaits::Derivatives,
+    };
+    Event::Ended(state.radius, state.cost, awaits)
+}
+
 pub(crate) fn ended(before: After) -> After {
     let session = before.session;
     let event = match session {
-        Session::TrustRegion(s) => trust_region::ended(s),
-        Session::Sr1(s) => sr1_session::ended(s),
+        Session::TrustRegion(s) => ending(s.state),
+        Session::Sr1(s) => ending(s.state),
     };
     After { session, event }
 }

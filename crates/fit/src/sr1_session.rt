@@ -1,18 +1,16 @@
 // An SR1TrustRegion session's own calls, and what happened in each.
-use crate::event::Awaits;
 use crate::event::Event;
 use crate::session;
 use crate::session::After as Happened;
 use crate::session::Answer;
-use crate::session::Change;
 use crate::session::Session as Kinds;
 use crate::standing;
 use crate::standing::Lists;
 use crate::standing::Standing;
 use kernels::choice::Choice;
+use offer::state;
+use offer::state::State;
 use sr1::session::After;
-use sr1::session::Outcome;
-use sr1::session::Phase;
 use sr1::session::Session;
 use sr1::session::Start;
 use sr1::settings::Settings;
@@ -35,14 +33,18 @@ pub(crate) fn begin(kernel: u64, numbers: [f64; 5], limit: u64, cost: f64) -> Ha
     let start = sr1_trustregion::start(settings, cost);
     match start {
         Start::Refused(r) => {
-            let none = sr1::session::begin(settings, numbers[0], cost);
-            happened(none, Event::NotStarted(r))
+            let none = state::begin(numbers[0], cost);
+            happened(settings, none, Event::NotStarted(r))
         }
-        Start::Started(s) => happened(s, Event::Started(cost, s.radius)),
+        Start::Started(s) => {
+            let state = s.state;
+            happened(settings, state, Event::Started(cost, state.radius))
+        }
     }
 }
 
-fn happened(session: Session, event: Event) -> Happened {
+pub(crate) fn happened(settings: Settings, state: State, event: Event) -> Happened {
+    let session = Session { settings, state };
     Happened {
         session: Kinds::Sr1(session),
         event,
@@ -86,32 +88,10 @@ pub(crate) fn judge(
 pub(crate) fn told(after: After, cost: f64) -> Happened {
     let session = after.session;
     let outcome = after.outcome;
-    let radius = session.radius;
-    let event = match outcome {
-        Outcome::Refused(r) => Event::Refused(r),
-        Outcome::Done => Event::Done,
-        Outcome::Proposed(passes) => Event::Proposed(passes),
-        Outcome::Accepted(ratio) => Event::Judged(true, cost, ratio, radius),
-        Outcome::Rejected(ratio) => Event::Judged(false, cost, ratio, radius),
-    };
-    happened(session, event)
-}
-
-pub(crate) fn ended(session: Session) -> Event {
-    let phase = session.phase;
-    let awaits = match phase {
-        Phase::Ready => Awaits::Proposal,
-        Phase::AwaitingCost(fall, norm) => Awaits::Cost(fall, norm),
-    };
-    Event::Ended(session.radius, session.cost, awaits)
-}
-
-pub(crate) fn changed(session: Session, to: Change) -> Happened {
-    let number = to.phase;
-    let phase = match number {
-        0 => Phase::Ready,
-        _ => Phase::AwaitingCost(to.a, to.b),
-    };
-    let changed = sr1::session::moved(session, to.radius, to.cost, phase);
-    happened(changed, session::event_of(to, 1))
+    let state = session.state;
+    happened(
+        session.settings,
+        state,
+        session::said(outcome, cost, state.radius),
+    )
 }

@@ -1,5 +1,4 @@
 // A TrustRegion session's own calls, and what happened in each.
-use crate::event::Awaits;
 use crate::event::Event;
 use crate::script;
 use crate::script::Got;
@@ -7,15 +6,14 @@ use crate::script::Script;
 use crate::session;
 use crate::session::After as Happened;
 use crate::session::Answer;
-use crate::session::Change;
 use crate::session::Session as Kinds;
 use crate::standing;
 use crate::standing::Lists;
 use crate::standing::Standing;
 use kernels::choice::Choice;
+use offer::state;
+use offer::state::State;
 use trustregion::session::After;
-use trustregion::session::Outcome;
-use trustregion::session::Phase;
 use trustregion::session::Session;
 use trustregion::session::Start;
 use trustregion::settings::Settings;
@@ -37,15 +35,16 @@ pub(crate) fn begin(kernel: u64, numbers: [f64; 5], limit: u64, cost: f64) -> Ha
     };
     let start = trustregion_method::start(settings, cost);
     match start {
-        Start::Started(s) => happened(s, Event::Started(cost, radius)),
+        Start::Started(s) => happened(settings, s.state, Event::Started(cost, radius)),
         Start::Refused(r) => {
-            let none = trustregion::session::begin(settings, radius, cost);
-            happened(none, Event::NotStarted(r))
+            let none = state::begin(radius, cost);
+            happened(settings, none, Event::NotStarted(r))
         }
     }
 }
 
-fn happened(session: Session, event: Event) -> Happened {
+pub(crate) fn happened(settings: Settings, state: State, event: Event) -> Happened {
+    let session = Session { settings, state };
     Happened {
         session: Kinds::TrustRegion(session),
         event,
@@ -56,15 +55,12 @@ fn happened(session: Session, event: Event) -> Happened {
 pub(crate) fn told(after: After, cost: f64) -> Happened {
     let session = after.session;
     let outcome = after.outcome;
-    let radius = session.radius;
-    let event = match outcome {
-        Outcome::Refused(r) => Event::Refused(r),
-        Outcome::Proposed(passes) => Event::Proposed(passes),
-        Outcome::Accepted(ratio) => Event::Judged(true, cost, ratio, radius),
-        Outcome::Rejected(ratio) => Event::Judged(false, cost, ratio, radius),
-        Outcome::Taken => Event::Taken,
-    };
-    happened(session, event)
+    let state = session.state;
+    happened(
+        session.settings,
+        state,
+        session::said(outcome, cost, state.radius),
+    )
 }
 
 // The answer to a trial.
@@ -161,25 +157,4 @@ fn renewed(
     let mut lists = before;
     lists.gradient = gradient;
     standing::told(told(after, 0.0), lists, told_n.script)
-}
-
-pub(crate) fn changed(session: Session, to: Change) -> Happened {
-    let number = to.phase;
-    let phase = match number {
-        0 => Phase::Ready,
-        1 => Phase::AwaitingCost(to.a, to.b),
-        _ => Phase::AwaitingDerivatives,
-    };
-    let changed = trustregion::session::moved(session, to.radius, to.cost, phase);
-    happened(changed, session::event_of(to, 2))
-}
-
-pub(crate) fn ended(session: Session) -> Event {
-    let phase = session.phase;
-    let awaits = match phase {
-        Phase::Ready => Awaits::Proposal,
-        Phase::AwaitingCost(model, norm) => Awaits::Cost(model, norm),
-        Phase::AwaitingDerivatives => Awaits::Derivatives,
-    };
-    Event::Ended(session.radius, session.cost, awaits)
 }

@@ -1,9 +1,8 @@
 -- An `SR1TrustRegion` session in lists: what they stand for, and what a call leaves in them. Definitions only.
 -- Words and numbers are those of Lists.antt. Settings: radius, eta, factor, tol_grad.
-use mathlib.Core.Bool.{cond}
 use mathlib.Core.List.{List}
 use Prim.Native.Nat.{ℕ}
-use lib.Dec.{eqb, leb}
+use lib.Dec.{leb}
 use lib.Ieee.{Float}
 use Rattle.float.specs.Constants.{nought}
 use Rattle.vectors.specs.Refusal.{number}
@@ -11,48 +10,24 @@ use Rattle.vectors.specs.Vector.{at}
 use Rattle.sr1.specs.Session as By-value
 use Rattle.sr1.specs.Calls.{begun}
 use Rattle.sr1.specs.declared.session.Session.{Session}
-use Rattle.sr1.specs.declared.session.Phase.{Phase}
-use Rattle.sr1.specs.declared.session.Phase.the-variants.{Ready, AwaitingCost}
 use Rattle.sr1.specs.declared.session.Start.{Start}
 use Rattle.sr1.specs.declared.session.Start.the-variants as start
-use Rattle.sr1.specs.declared.session.Outcome.{Outcome}
-use Rattle.sr1.specs.declared.session.Outcome.the-variants.{Refused, Done, Proposed, Accepted, Rejected}
 use Rattle.sr1.specs.declared.session.After.{After}
-use Rattle.foreign_sessions.specs.declared.Turn.{Turn}
 use Rattle.foreign_sessions.specs.declared.Held.{Held}
-use Rattle.foreign_sessions.specs.declared.Said.{Said}
 use Rattle.foreign_sessions.specs.declared.Said.the-variants as said
 use Rattle.foreign_sessions.specs.Lists as Lists
-use Rattle.foreign_sessions.specs.Lists.{word, held-in, Told, told, kept}
-
--- ---- from lists
-
-abbrev pub phase-of : Turn → Phase
-phase-of turn = cond (eqb (turn .0) 0) Ready (AwaitingCost (turn .1) (turn .2))
+use Rattle.foreign_sessions.specs.Lists.{word, held-in, said-of, Told, told, kept}
 
 abbrev pub session-of : Held → (settings : List Float) → Session
 session-of held settings =
-    record { settings = record { choice = held .0; radius = at settings 0; eta = at settings 1; factor = at settings 2; «tol_grad» = at settings 3 }; radius = held .1; cost = held .2; phase = phase-of (held .3) }
-
--- ---- into lists
-
-abbrev pub turn-of : Phase → Turn
-turn-of Ready = (0, nought, nought)
-turn-of (AwaitingCost predicted norm) = (1, predicted, norm)
+    record { settings = record { choice = held .0; radius = at settings 0; eta = at settings 1; factor = at settings 2; «tol_grad» = at settings 3 }; state = held .1 }
 
 abbrev pub held-by : Session → Held
-held-by s = (s .settings .choice, s .radius, s .cost, turn-of (s .phase))
-
-abbrev pub said-of : Outcome → Said
-said-of (Refused r) = said.Refused r
-said-of Done = said.Kept 5 0 nought
-said-of (Proposed passes) = said.Kept 1 passes nought
-said-of (Accepted ratio) = said.Kept 2 0 ratio
-said-of (Rejected ratio) = said.Kept 3 0 ratio
+held-by s = (s .settings .choice, s .state)
 
 -- what a start comes to, and leaves
 abbrev pub begins : Session → Start
-begins s = begun (By-value.start (s .settings) (s .cost))
+begins s = begun (By-value.start (s .settings) (s .state .cost))
 
 abbrev pub began : (words : List ℕ) → (numbers : List Float) → Start → Told
 began words numbers (start.Refused r) = told (number r) words numbers

@@ -1,10 +1,6 @@
 // An SR1TrustRegion session in lists. Its own settings: radius, eta, factor, tol_grad. It awaits no derivatives.
 use crate::Held;
 use crate::Said;
-use crate::Turn;
-use sr1::session::After;
-use sr1::session::Outcome;
-use sr1::session::Phase;
 use sr1::session::Session;
 use sr1::session::Start;
 use sr1::settings::Settings;
@@ -18,13 +14,11 @@ ghost use Rattle.foreign_sessions.specs.Lists.{told, held-in};
 ghost use Rattle.foreign_sessions.specs.Sr1 as Definition;
 ghost use Rattle.foreign_sessions.specs.Sr1.{session-of, begins, began, Driven};
 
-// ---- from lists
-
 fn session_of(held: Held, settings: &[f64; 4]) -> Session
     ensures { λ r. ⌜ r ≡ session-of held (now (settings .entry)) ⌝ }
 {
     let choice = held.0;
-    let phase = phase_of(held.3);
+    let state = held.1;
     Session {
         settings: Settings {
             choice: choice,
@@ -33,47 +27,16 @@ fn session_of(held: Held, settings: &[f64; 4]) -> Session
             factor: settings[2],
             tol_grad: settings[3],
         },
-        radius: held.1,
-        cost: held.2,
-        phase: phase,
+        state: state,
     }
 }
-
-fn phase_of(turn: Turn) -> Phase
-    ensures { λ r. ⌜ r ≡ Definition.phase-of turn ⌝ }
-{
-    if turn.0 == 0 {
-        Phase::Ready
-    } else {
-        Phase::AwaitingCost(turn.1, turn.2)
-    }
-}
-
-// ---- into lists
 
 fn held_by(s: Session) -> Held
     ensures { λ r. ⌜ r ≡ Definition.held-by s ⌝ }
 {
     let choice = s.settings.choice;
-    let phase = s.phase;
-    let turn = match phase {
-        Phase::Ready => Turn(0, 0.0, 0.0),
-        Phase::AwaitingCost(predicted, norm) => Turn(1, predicted, norm),
-    };
-    Held(choice, s.radius, s.cost, turn)
-}
-
-fn said_of(after: After) -> Said
-    ensures { λ r. ⌜ r ≡ Definition.said-of (after .outcome) ⌝ }
-{
-    let outcome = after.outcome;
-    match outcome {
-        Outcome::Refused(r) => Said::Refused(r),
-        Outcome::Done => Said::Kept(5, 0, 0.0),
-        Outcome::Proposed(passes) => Said::Kept(1, passes, 0.0),
-        Outcome::Accepted(ratio) => Said::Kept(2, 0, ratio),
-        Outcome::Rejected(ratio) => Said::Kept(3, 0, ratio),
-    }
+    let state = s.state;
+    Held(choice, state)
 }
 
 // ---- the calls
@@ -89,7 +52,7 @@ pub extern "C" fn mboyaxin_sr1_start(
         ≡ began (now (words .entry)) (now (numbers .entry)) (begins (session-of (held-in true (now (words .entry)) (now (numbers .entry))) (now (settings .entry)))) ⌝ }
 {
     let given = session_of(crate::held_in(true, words, numbers), settings);
-    let start = sr1_trustregion::start(given.settings, given.cost);
+    let start = sr1_trustregion::start(given.settings, given.state.cost);
     match start {
         Start::Refused(r) => vectors::refusal::number(r),
         Start::Started(s) => crate::keep(held_by(s), Said::Kept(0, 0, 0.0), words, numbers),
@@ -115,7 +78,13 @@ pub extern "C" fn mboyaxin_sr1_propose(
 {
     let s = session_of(crate::held_in(words[2] <= 1, words, numbers), settings);
     let after = sr1_trustregion::proposed(s, n, point, gradient, hessian, step, trial, scratch);
-    crate::keep(held_by(after.session), said_of(after), words, numbers)
+    let outcome = after.outcome;
+    crate::keep(
+        held_by(after.session),
+        crate::said_of(outcome),
+        words,
+        numbers,
+    )
 }
 
 #[no_mangle]
@@ -150,5 +119,11 @@ pub extern "C" fn mboyaxin_sr1_answer(
         hessian,
         scratch,
     );
-    crate::keep(held_by(after.session), said_of(after), words, numbers)
+    let outcome = after.outcome;
+    crate::keep(
+        held_by(after.session),
+        crate::said_of(outcome),
+        words,
+        numbers,
+    )
 }

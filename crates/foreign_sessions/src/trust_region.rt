@@ -1,10 +1,6 @@
 // A TrustRegion session in lists. Its own settings: radius, max_radius, eta.
 use crate::Held;
 use crate::Said;
-use crate::Turn;
-use trustregion::session::After;
-use trustregion::session::Outcome;
-use trustregion::session::Phase;
 use trustregion::session::Session;
 use trustregion::session::Start;
 use trustregion::settings::Settings;
@@ -18,13 +14,11 @@ ghost use Rattle.foreign_sessions.specs.Lists.{told, held-in};
 ghost use Rattle.foreign_sessions.specs.TrustRegion as Definition;
 ghost use Rattle.foreign_sessions.specs.TrustRegion.{session-of, begins, began, Driven};
 
-// ---- from lists
-
 fn session_of(held: Held, settings: &[f64; 3]) -> Session
     ensures { λ r. ⌜ r ≡ session-of held (now (settings .entry)) ⌝ }
 {
     let choice = held.0;
-    let phase = phase_of(held.3);
+    let state = held.1;
     Session {
         settings: Settings {
             choice: choice,
@@ -32,50 +26,16 @@ fn session_of(held: Held, settings: &[f64; 3]) -> Session
             max_radius: settings[1],
             eta: settings[2],
         },
-        radius: held.1,
-        cost: held.2,
-        phase: phase,
+        state: state,
     }
 }
-
-fn phase_of(turn: Turn) -> Phase
-    ensures { λ r. ⌜ r ≡ Definition.phase-of turn ⌝ }
-{
-    if turn.0 == 0 {
-        return Phase::Ready;
-    }
-    if turn.0 == 1 {
-        return Phase::AwaitingCost(turn.1, turn.2);
-    }
-    Phase::AwaitingDerivatives
-}
-
-// ---- into lists
 
 fn held_by(s: Session) -> Held
     ensures { λ r. ⌜ r ≡ Definition.held-by s ⌝ }
 {
     let choice = s.settings.choice;
-    let phase = s.phase;
-    let turn = match phase {
-        Phase::Ready => Turn(0, 0.0, 0.0),
-        Phase::AwaitingCost(model, norm) => Turn(1, model, norm),
-        Phase::AwaitingDerivatives => Turn(2, 0.0, 0.0),
-    };
-    Held(choice, s.radius, s.cost, turn)
-}
-
-fn said_of(after: After) -> Said
-    ensures { λ r. ⌜ r ≡ Definition.said-of (after .outcome) ⌝ }
-{
-    let outcome = after.outcome;
-    match outcome {
-        Outcome::Refused(r) => Said::Refused(r),
-        Outcome::Proposed(passes) => Said::Kept(1, passes, 0.0),
-        Outcome::Accepted(ratio) => Said::Kept(2, 0, ratio),
-        Outcome::Rejected(ratio) => Said::Kept(3, 0, ratio),
-        Outcome::Taken => Said::Kept(4, 0, 0.0),
-    }
+    let state = s.state;
+    Held(choice, state)
 }
 
 // ---- the calls
@@ -91,7 +51,7 @@ pub extern "C" fn mboyaxin_trustregion_start(
         ≡ began (now (words .entry)) (now (numbers .entry)) (begins (session-of (held-in true (now (words .entry)) (now (numbers .entry))) (now (settings .entry)))) ⌝ }
 {
     let given = session_of(crate::held_in(true, words, numbers), settings);
-    let start = trustregion_method::start(given.settings, given.cost);
+    let start = trustregion_method::start(given.settings, given.state.cost);
     match start {
         Start::Refused(r) => vectors::refusal::number(r),
         Start::Started(s) => crate::keep(held_by(s), Said::Kept(0, 0, 0.0), words, numbers),
@@ -117,7 +77,13 @@ pub extern "C" fn mboyaxin_trustregion_propose(
 {
     let s = session_of(crate::held_in(words[2] <= 2, words, numbers), settings);
     let after = trustregion_method::proposed(s, n, point, gradient, hessian, step, trial, scratch);
-    crate::keep(held_by(after.session), said_of(after), words, numbers)
+    let outcome = after.outcome;
+    crate::keep(
+        held_by(after.session),
+        crate::said_of(outcome),
+        words,
+        numbers,
+    )
 }
 
 #[no_mangle]
@@ -135,7 +101,13 @@ pub extern "C" fn mboyaxin_trustregion_answer_cost(
 {
     let s = session_of(crate::held_in(words[2] <= 2, words, numbers), settings);
     let after = trustregion_method::judged(s, n, cost, point, trial);
-    crate::keep(held_by(after.session), said_of(after), words, numbers)
+    let outcome = after.outcome;
+    crate::keep(
+        held_by(after.session),
+        crate::said_of(outcome),
+        words,
+        numbers,
+    )
 }
 
 #[no_mangle]
@@ -155,5 +127,11 @@ pub extern "C" fn mboyaxin_trustregion_answer_derivatives(
 {
     let s = session_of(crate::held_in(words[2] <= 2, words, numbers), settings);
     let after = trustregion_method::renewed(s, n, new_gradient, new_hessian, gradient, hessian);
-    crate::keep(held_by(after.session), said_of(after), words, numbers)
+    let outcome = after.outcome;
+    crate::keep(
+        held_by(after.session),
+        crate::said_of(outcome),
+        words,
+        numbers,
+    )
 }

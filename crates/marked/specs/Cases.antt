@@ -14,13 +14,11 @@ use Rattle.kernels.specs.Dogleg.{dogleg}
 use Rattle.kernels.specs.Steihaug.{steihaug}
 use Rattle.trustregion.specs.Session.{Judgement, judgement}
 use Rattle.trustregion.specs.declared.session.Session.{Session}
-use Rattle.trustregion.specs.declared.session.Phase.{Phase}
-use Rattle.trustregion.specs.declared.session.Phase.the-variants.{Ready, AwaitingCost, AwaitingDerivatives}
+use Rattle.offer.specs.declared.state.Phase.{Phase}
+use Rattle.offer.specs.declared.state.Phase.the-variants.{Ready, AwaitingCost, AwaitingDerivatives}
 use Rattle.sr1.specs.Settings as sr1-settings
 use Rattle.sr1.specs.Session as sr1
 use Rattle.sr1.specs.declared.session.Session.{Session as Sr1}
-use Rattle.sr1.specs.declared.session.Phase.{Phase as Sr1Phase}
-use Rattle.sr1.specs.declared.session.Phase.the-variants as sr1-phases
 
 infix 30 _over_
 infix 30 minus_over_
@@ -75,9 +73,7 @@ minus-zero-step = steps-to 0 ((minus 0 over 1) ∷ (minus 0 over 1) ∷ [])
 abbrev session-of : (max-radius radius f : Float) → Phase → Session
 session-of max-radius radius f phase = record {
   settings = record { choice = by-default 1 5; radius = one; «max_radius» = max-radius; eta = eighth };
-  radius = radius;
-  cost = f;
-  phase = phase;
+  state = record { radius = radius; cost = f; phase = phase };
 }
 
 -- it awaits the cost of the trial (2) at the point (1), with the model value m and "‖p‖ = radius = 2.5", and is answered F
@@ -92,19 +88,19 @@ abbrev accepted : (max-radius ratio radius F : Float) → Found
 accepted max-radius ratio radius F = session (given (record { session = session-of max-radius radius F AwaitingDerivatives; point = two ∷ []; ratio = ratio; accepted = true }))
 
 -- an SR1TrustRegion session at radius 1: f 10
-abbrev sr1-of : (f : Float) → Sr1Phase → Sr1
-sr1-of f phase = record { settings = sr1-settings.by-default 1 5; radius = one; cost = f; phase = phase }
+abbrev sr1-of : (f : Float) → Phase → Sr1
+sr1-of f phase = record { settings = sr1-settings.by-default 1 5; state = record { radius = one; cost = f; phase = phase } }
 
 -- "SR1, I, s (1, 0)", answered F 9 and the gradient G at the trial (1, 0) of the point (0, 0), with P 2 and ‖s‖ 1
 abbrev updated : (G : List Float) → Found
 updated G =
-    sr1-session (sr1.judgement (sr1-of (10 over 1) (sr1-phases.AwaitingCost two one)) 2 (9 over 1) G
+    sr1-session (sr1.judgement (sr1-of (10 over 1) (AwaitingCost two one)) 2 (9 over 1) G
     (nought ∷ nought ∷ []) (one ∷ nought ∷ []) (one ∷ nought ∷ []) g I (zeros (room 2)))
 
 -- accepted, with the Hessian of this diagonal
 abbrev diagonal : (G : List Float) (a b : Float) → Found
 diagonal G a b = sr1-session (given (record {
-  session = sr1-of (9 over 1) sr1-phases.Ready;
+  session = sr1-of (9 over 1) Ready;
   point = one ∷ nought ∷ [];
   gradient = G;
   hessian = a ∷ nought ∷ nought ∷ b ∷ [];

@@ -1,3 +1,4 @@
+pub mod State
 pub mod Offer
 pub mod Calls
 pub mod Run

@@ -2,27 +2,27 @@
 use mathlib.Core.Bool.{Bool, not, _||_}
 use mathlib.Core.List.{List, [], _∷_}
 use Prim.Native.Nat.{ℕ, _*_}
-use lib.Ieee.{Float, le, eq, isNan}
+use lib.Ieee.{Float, eq, isNan}
 use Rattle.float.specs.Numbers.{finite}
 use Rattle.float.specs.Constants.{nought}
 use Rattle.vectors.specs.Vector.{plus, all-finite}
 use Rattle.vectors.specs.Refusal.{Answer, given, Check, _if_, unless, then, all-hold, size, sized, room}
 use Rattle.kernels.specs.Kernel.{Made, Kernel}
-use Rattle.vectors.specs.declared.refusal.Refusal.the-variants.{Radius, Range}
+use Rattle.vectors.specs.declared.refusal.Refusal.the-variants.{Setting, Entry, Radius, Range}
 
 -- "n is 1 to 64. Vectors have n numbers, matrices n·n by rows, scratch 2·n·n + 8·n, each exactly."
 abbrev pub all-sized : ℕ → (point gradient hessian step trial scratch : List Float) → Bool
 all-sized n point gradient hessian step trial scratch =
     all-hold (size n ∷ sized n point ∷ sized n gradient ∷ sized (n * n) hessian ∷ sized n step ∷ sized n trial ∷ sized (room n) scratch ∷ [])
 
--- not "a session with negative or not finite radius, or cost not finite"
-abbrev pub steady : (radius cost : Float) → Bool
-steady radius cost = all-hold (finite radius ∷ le nought radius ∷ finite cost ∷ [])
-
 -- not "trial cost infinite (NaN is taken)"
 unfoldable pub cost-taken : (F : Float) → Bool
 unfolding finite
 cost-taken F = finite F || isNan F
+
+-- a start "takes settings and cost only": `ranged` says that its settings are in range
+abbrev pub start-checks : (ranged : Bool) → (f : Float) → List Check
+start-checks ranged f = (Setting if not ranged) ∷ (Entry if not (finite f)) ∷ []
 
 -- what a proposal hands out
 pub record Offer : Type 0 where

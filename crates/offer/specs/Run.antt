@@ -6,6 +6,8 @@ use mathlib.Core.List.{List, [], _∷_}
 use lib.Dec.{T, eqb}
 use lib.Ieee.{Float}
 use Rattle.vectors.specs.Refusal.{Answer, refused, given, then, number, left-in, scratch-after}
+use Rattle.offer.specs.State.{Promise, promised}
+use Rattle.offer.specs.declared.state.State.{State}
 
 -- ---- the station and its calls
 
@@ -34,29 +36,28 @@ pub record Call (Q : Type 0) : Type 0 where
 -- ---- what a call is answered
 
 -- A trial, told when its cost is taken: the proposal, the cost before it, what it was promised on, the cost F, the ratio, the verdict, the radius before and afterwards.
-pub record Trial (P : Type 0) : Type 0 where
+pub record Trial : Type 0 where
   pub step : List Float
   pub trial : List Float
   pub before : Float
-  pub promise : Answer P
+  pub promise : Answer Promise
   pub cost : Float
   pub ratio : Float
   pub accepted : Bool
   pub radius-before : Float
   pub radius : Float
 
--- of a session of which the cost, the radius and what it was promised on are known
-abbrev pub trial-at : {S P : Type 0} → (cost radius : S → Float) (promised : S → Answer P) → Station S → (F ratio : Float) (accepted : Bool) (after : S) → Trial P
-trial-at cost radius promised s F ratio accepted after = record {
+abbrev pub trial-at : {S : Type 0} → (state : S → State) → Station S → (F ratio : Float) (accepted : Bool) (after : S) → Trial
+trial-at state s F ratio accepted after = record {
   step = s .lent .step;
   trial = s .lent .trial;
-  before = cost (s .session);
-  promise = promised (s .session);
+  before = state (s .session) .cost;
+  promise = promised (state (s .session) .phase);
   cost = F;
   ratio = ratio;
   accepted = accepted;
-  radius-before = radius (s .session);
-  radius = radius after;
+  radius-before = state (s .session) .radius;
+  radius = state after .radius;
 }
 
 -- the reply of a call, and the station afterwards

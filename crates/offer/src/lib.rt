@@ -1,6 +1,7 @@
 // What every session that offers a step shares: its sizes and ranges, the kernel's run, and the trial point.
 pub mod lent;
 pub mod range;
+pub mod state;
 
 use kernels::choice;
 use kernels::choice::Choice;

@@ -1,19 +1,11 @@
-// What both sessions check: the ranges of their settings and of what they keep, and refusals 1 to 4.
+// What both sessions check: a trial's cost, and refusals 1 to 4.
 use crate::lent;
-use vectors::refusal;
 use vectors::refusal::Refusal;
 use vectors::refusal::Verdict;
 ghost use mathlib.Core.Path.{_≡_};
 ghost use Rattle.vectors.specs.Refusal.{judged};
 ghost use Rattle.offer.specs.Offer as Offer;
 ghost use Rattle.offer.specs.Calls as Calls;
-
-// The radius and the cost that a session keeps.
-pub fn steady(radius: f64, cost: f64) -> bool
-    ensures { λ r. ⌜ r ≡ Offer.steady radius cost ⌝ }
-{
-    refusal::all_hold(&[float::finite(radius), 0.0 <= radius, float::finite(cost)])
-}
 
 // A hidden marker's cost is a NaN: that is an answer, an infinity is none.
 pub fn cost_taken(cost: f64) -> bool

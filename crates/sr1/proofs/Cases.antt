@@ -14,9 +14,9 @@ use Rattle.sr1.specs.Settings.{by-default, chosen}
 use Rattle.sr1.specs.Session.{start, proposal, next-radius, judgement}
 use Rattle.sr1.specs.Run.{Station, Request, propose, answer, Told, outcome, respond}
 use Rattle.sr1.specs.declared.session.Session.{Session}
-use Rattle.sr1.specs.declared.session.Phase.{Phase}
-use Rattle.sr1.specs.declared.session.Phase.the-variants.{Ready, AwaitingCost}
-use Rattle.sr1.specs.declared.session.Outcome.the-variants.{Refused, Proposed, Accepted}
+use Rattle.offer.specs.declared.state.Phase.{Phase}
+use Rattle.offer.specs.declared.state.Phase.the-variants.{Ready, AwaitingCost}
+use Rattle.offer.specs.declared.state.Outcome.the-variants.{Refused, Proposed, Accepted}
 
 infix 30 _over_
 -- a / b, rounded once
@@ -25,7 +25,7 @@ unfolding round
 a over b = round binary64 false a b
 
 abbrev session : (radius f : Float) → Phase → Session
-session radius f phase = record { settings = by-default 1 5; radius = radius; cost = f; phase = phase }
+session radius f phase = record { settings = by-default 1 5; state = record { radius = radius; cost = f; phase = phase } }
 
 -- ---- "ap > 0.75 keeps it if ‖s‖ ≤ 0.8·radius, else doubles; 0.1 ≤ ap ≤ 0.75 keeps; else, NaN too, halves"
 
@@ -68,7 +68,7 @@ abbrev script : List (Call Request)
 script = call (propose 2) ∷ call (propose 2) ∷ call (answer 3 one []) ∷ call (answer 2 (5 over 8) ((3 over 2) ∷ nought ∷ [])) ∷ []
 
 abbrev numbers : Station → List Float
-numbers s = s .session .radius ∷ s .session .cost ∷ s .lent .point ++ s .lent .gradient ++ s .lent .hessian
+numbers s = s .session .state .radius ∷ s .session .state .cost ∷ s .lent .point ++ s .lent .gradient ++ s .lent .hessian
 
 -- The ratio is 1, and the radius doubles.
 pub record Ran : Type 0 where

@@ -20,33 +20,35 @@ use Rattle.vectors.specs.declared.refusal.Verdict.the-variants.{Passed, Failed}
 use Rattle.vectors.proofs.Sizes.{Each, each-holds}
 use Rattle.kernels.proofs.Choices.{in-range-known}
 use Rattle.kernels.proofs.Kernels.{unless-passed, unless-failed, early, first-passed}
-use Rattle.offer.specs.Offer.{all-sized, steady, cost-taken, Offer, stepping}
+use Rattle.offer.specs.Offer.{all-sized, cost-taken, start-checks, Offer, stepping}
+use Rattle.offer.specs.State.{begin, moved, steady, Promise, promised}
 use Rattle.offer.specs.Calls.{replaced, offering, Offers}
 use Rattle.offer.specs.declared.Offered.{Offered}
 use Rattle.offer.proofs.Checks.{passed-none, not-not}
 use Rattle.offer.proofs.Lengths.{Lent, lent-true, copied}
 use Rattle.offer.proofs.Offers.{offers-kernel}
 use Rattle.sr1.specs.Settings.{ranges, in-range, chosen}
-use Rattle.sr1.specs.Session.{sound, moved, Promise, promised, start-checks, begin, start, Proposal, converged, done, predicted-fall, awaiting, proposal-checks, proposal, fall-ratio, next-radius, updated, settled, verdict, judge, judgement-checks, judgement}
+use Rattle.sr1.specs.Session.{sound, turned, started, start, Proposal, converged, done, predicted-fall, awaiting, proposal-checks, proposal, fall-ratio, next-radius, updated, settled, verdict, judge, judgement-checks, judgement}
 use Rattle.sr1.specs.Calls as Calls
-use Rattle.sr1.specs.Calls.{refusing, after-offer, Proposes, Updates, Judges}
+use Rattle.sr1.specs.Calls.{saying, after-offer, Proposes, Updates, Judges}
 use Rattle.sr1.specs.declared.settings.Settings.{Settings}
 use Rattle.sr1.specs.declared.session.Session.{Session}
 use Rattle.sr1.specs.declared.session.Start.the-variants as begun
-use Rattle.sr1.specs.declared.session.Phase.the-variants.{Ready}
-use Rattle.sr1.specs.declared.session.Outcome.the-variants.{Done, Accepted, Rejected}
+use Rattle.offer.specs.declared.state.State.{State}
+use Rattle.offer.specs.declared.state.Phase.the-variants.{Ready}
+use Rattle.offer.specs.declared.state.Outcome.the-variants.{Refused, Done, Accepted, Rejected}
 use Rattle.sr1.specs.declared.session.After.{After}
 
 -- ---- the start
 
-module _ (t : Settings) (f : Float) (v : Verdict) (judges : v ≡ judged (start-checks t f)) where
+module _ (t : Settings) (f : Float) (v : Verdict) (judges : v ≡ judged (start-checks (in-range t) f)) where
   pub starts-not : (r : Refusal) → v ≡ Failed r → begun.Refused r ≡ Calls.begun (start t f)
   unfolding start
-  starts-not r e = rw (unless-failed (start-checks t f) (given (begin t (magnitude (t .radius)) f)) r (sym judges ∙ e))
+  starts-not r e = rw (unless-failed (start-checks (in-range t) f) (given (started t (magnitude (t .radius)) f)) r (sym judges ∙ e))
 
-  pub starts : v ≡ Passed → (radius : Float) → radius ≡ magnitude (t .radius) → (s : Session) → s ≡ begin t radius f → begun.Started s ≡ Calls.begun (start t f)
+  pub starts : v ≡ Passed → (radius : Float) → radius ≡ magnitude (t .radius) → (state : State) → state ≡ begin radius f → begun.Started (record { settings = t; state = state }) ≡ Calls.begun (start t f)
   unfolding start
-  starts e radius m s is = rw (is, m, unless-passed (start-checks t f) (given (begin t (magnitude (t .radius)) f)) (sym judges ∙ e))
+  starts e radius m state is = rw (is, m, unless-passed (start-checks (in-range t) f) (given (started t (magnitude (t .radius)) f)) (sym judges ∙ e))
 
 -- ---- the proposal
 
@@ -54,7 +56,7 @@ module _ (t : Settings) (f : Float) (v : Verdict) (judges : v ≡ judged (start-
 kernel-known : (s : Session) → sound s ≡ true → Choice.known (s .settings .choice .kernel) ≡ true
 unfolding sound in-range
 kernel-known s e =
-    let ranged = each-holds (in-range (s .settings) ∷ steady (s .radius) (s .cost) ∷ []) e .0 in
+    let ranged = each-holds (in-range (s .settings) ∷ steady (s .state) ∷ []) e .0 in
     in-range-known (s .settings .choice) (each-holds (ranges (s .settings)) ranged .0)
 
 -- the kernels' p·g is document 01's g·s
@@ -80,9 +82,9 @@ module _ (s : Session) (n : ℕ) (point gradient hessian step trial scratch : Li
 
   -- unless it is done
   abbrev going-on : Bool → Answer Proposal
-  going-on b = cond b (given (done s step trial)) (keeping (stepping (chosen (s .settings)) n (s .radius) point gradient hessian))
+  going-on b = cond b (given (done s step trial)) (keeping (stepping (chosen (s .settings)) n (s .state .radius) point gradient hessian))
 
-  pub proposes-not : (r : Refusal) → v ≡ Failed r → (after : After) → after ≡ refusing s r → proposes (proposal chosen s n point gradient hessian step trial scratch) after step trial scratch
+  pub proposes-not : (r : Refusal) → v ≡ Failed r → (after : After) → after ≡ saying s (Refused r) → proposes (proposal chosen s n point gradient hessian step trial scratch) after step trial scratch
   unfolding proposal
   proposes-not r e after is =
       rw (unless-failed checks (going-on (converged s gradient)) r (sym judges ∙ e))
@@ -98,21 +100,21 @@ module _ (s : Session) (n : ℕ) (point gradient hessian step trial scratch : Li
     proposes-done t scratch′ z = rw (on-checks, t) (record { says = refl; leaves-step = refl; leaves-trial = refl; leaves-scratch = z })
 
     module _ (t : b ≡ false) (found : Offered) (step′ trial′ scratch′ : List Float)
-        (offers : Offers n gradient hessian (offering (s .settings .choice) n (s .radius) point gradient hessian step trial scratch)
+        (offers : Offers n gradient hessian (offering (s .settings .choice) n (s .state .radius) point gradient hessian step trial scratch)
         found step trial scratch step′ trial′ scratch′) (long : length step′ ≡ length step) where
       sizes : all-sized n point gradient hessian step trial scratch ≡ true
       sizes = is-true _ (not-not (all-sized n point gradient hessian step trial scratch) (passed-none checks (sym judges ∙ e) .0))
 
       -- the session's proposal follows what was offered
-      follows : proposal chosen s n point gradient hessian step trial scratch ≡ keeping (offering (s .settings .choice) n (s .radius) point gradient hessian step trial scratch)
+      follows : proposal chosen s n point gradient hessian step trial scratch ≡ keeping (offering (s .settings .choice) n (s .state .radius) point gradient hessian step trial scratch)
       follows =
           let right : sound s ≡ true = is-true _ (not-not (sound s) (passed-none checks (sym judges ∙ e) .1 .0)) in
           let kernel = kernel-known s right in
-          on-checks ∙ rw t (ap keeping (sym (offers-kernel (s .settings .choice) n (s .radius) point gradient hessian step trial scratch sizes kernel)))
+          on-checks ∙ rw t (ap keeping (sym (offers-kernel (s .settings .choice) n (s .state .radius) point gradient hessian step trial scratch sizes kernel)))
 
       pub proposes-offer : (after : After) → after ≡ after-offer s found → proposes (proposal chosen s n point gradient hessian step trial scratch) after step′ trial′ scratch′
       unfolding awaiting predicted-fall
-      proposes-offer after is = rw follows (go (offering (s .settings .choice) n (s .radius) point gradient hessian step trial scratch) offers)
+      proposes-offer after is = rw follows (go (offering (s .settings .choice) n (s .state .radius) point gradient hessian step trial scratch) offers)
         where
           go : (a : Answer Offer) → Offers n gradient hessian a found step trial scratch step′ trial′ scratch′ → proposes (keeping a) after step′ trial′ scratch′
           go (refused r) o = record { says = is ∙ ap (after-offer s) (o .says); leaves-step = o .leaves-step; leaves-trial = o .leaves-trial; leaves-scratch = o .leaves-scratch }
@@ -162,28 +164,28 @@ module _ (s : Session) (n : ℕ) (F : Float) (new-gradient point step trial grad
     abbrev judges-by : After → (point′ gradient′ hessian′ scratch′ : List Float) → Type 0
     judges-by = Judges (judge s n F new-gradient point step trial gradient hessian p) s point gradient hessian scratch
 
-    pub judge-unanswered : answered ≡ false → (after : After) → after ≡ refusing s Entry → judges-by after point gradient hessian scratch
+    pub judge-unanswered : answered ≡ false → (after : After) → after ≡ saying s (Refused Entry) → judges-by after point gradient hessian scratch
     unfolding judge
     judge-unanswered a after is = rw a (record { says = is; leaves-point = refl; leaves-gradient = refl; leaves-hessian = refl; leaves-scratch = refl })
 
     abbrev ratio : Float
-    ratio = fall-ratio (s .cost) F (p .predicted)
+    ratio = fall-ratio (s .state .cost) F (p .value)
 
     abbrev next-hessian : List Float
     next-hessian = updated n (s .settings .factor) (p .norm) new-gradient gradient hessian step
 
     -- the code's ratio and next radius
-    module _ (a : answered ≡ true) (x next : Float) (is-ratio : x ≡ ratio) (is-next : next ≡ next-radius x (p .norm) (s .radius)) where
+    module _ (a : answered ≡ true) (x next : Float) (is-ratio : x ≡ ratio) (is-next : next ≡ next-radius x (p .norm) (s .state .radius)) where
       on-answer : judge s n F new-gradient point step trial gradient hessian p ≡ verdict s F x next new-gradient point trial gradient next-hessian
       unfolding judge
       on-answer = rw (a, is-next, is-ratio)
 
-      pub judge-far : finite next ≡ false → (scratch′ : List Float) → scratch′ ≡ zeros (length scratch) → (after : After) → after ≡ refusing s Range → judges-by after point gradient hessian scratch′
+      pub judge-far : finite next ≡ false → (scratch′ : List Float) → scratch′ ≡ zeros (length scratch) → (after : After) → after ≡ saying s (Refused Range) → judges-by after point gradient hessian scratch′
       judge-far b scratch′ z after is = rw (on-answer, b) (record { says = is; leaves-point = refl; leaves-gradient = refl; leaves-hessian = refl; leaves-scratch = z })
 
       -- and its new Hessian
       module _ (b : finite next ≡ true) (r : Bool) (hessian′ scratch′ : List Float) (u : Updates next-hessian r hessian hessian′) (z : scratch′ ≡ zeros (length scratch)) where
-        pub judge-not-finite : r ≡ false → (after : After) → after ≡ refusing s Range → judges-by after point gradient hessian′ scratch′
+        pub judge-not-finite : r ≡ false → (after : After) → after ≡ saying s (Refused Range) → judges-by after point gradient hessian′ scratch′
         judge-not-finite e after is =
             let bad : all-finite next-hessian ≡ false = sym (u .says) ∙ e in
             rw (on-answer, b, bad) (record { says = is; leaves-point = refl; leaves-gradient = refl; leaves-hessian = u .leaves ∙ rw bad; leaves-scratch = z })
@@ -196,35 +198,35 @@ module _ (s : Session) (n : ℕ) (F : Float) (new-gradient point step trial grad
           settles = on-answer ∙ rw (b, good)
 
           pub judge-accepts : lt (s .settings .eta) x ≡ true → (passed : judged answer-checked ≡ Passed) (point′ gradient′ : List Float) → point′ ≡ replaced trial point → gradient′ ≡ replaced new-gradient gradient
-              → (after : Session) → after ≡ moved s next F Ready → judges-by (record { session = after; outcome = Accepted x }) point′ gradient′ hessian′ scratch′
+              → (state : State) → state ≡ moved (s .state) next F Ready → (k : After) → k ≡ saying (turned s state) (Accepted x) → judges-by k point′ gradient′ hessian′ scratch′
           unfolding settled
-          judge-accepts t passed point′ gradient′ c d after is =
-              rw (is, settles, t)
+          judge-accepts t passed point′ gradient′ c d state f k is =
+              rw (is, f, settles, t)
               (record { says = refl; leaves-point = c ∙ takes-trial passed; leaves-gradient = d ∙ takes-gradient passed; leaves-hessian = u .leaves ∙ rw good; leaves-scratch = z })
 
           pub judge-rejects : lt (s .settings .eta) x ≡ false
-              → (after : Session) → after ≡ moved s next (s .cost) Ready → judges-by (record { session = after; outcome = Rejected x }) point gradient hessian′ scratch′
+              → (state : State) → state ≡ moved (s .state) next (s .state .cost) Ready → (k : After) → k ≡ saying (turned s state) (Rejected x) → judges-by k point gradient hessian′ scratch′
           unfolding settled
-          judge-rejects t after is = rw (is, settles, t) (record { says = refl; leaves-point = refl; leaves-gradient = refl; leaves-hessian = u .leaves ∙ rw good; leaves-scratch = z })
+          judge-rejects t state f k is = rw (is, f, settles, t) (record { says = refl; leaves-point = refl; leaves-gradient = refl; leaves-hessian = u .leaves ∙ rw good; leaves-scratch = z })
 
   module _ (v : Verdict) (judges : v ≡ judged answer-checked) where
-    pub judges-not : (r : Refusal) → v ≡ Failed r → (after : After) → after ≡ refusing s r
+    pub judges-not : (r : Refusal) → v ≡ Failed r → (after : After) → after ≡ saying s (Refused r)
         → Judges (judgement s n F new-gradient point step trial gradient hessian scratch) s point gradient hessian scratch after point gradient hessian scratch
     unfolding judgement
     judges-not r e after is =
-        rw (unless-failed answer-checked (then (judge s n F new-gradient point step trial gradient hessian) (promised (s .phase))) r (sym judges ∙ e))
+        rw (unless-failed answer-checked (then (judge s n F new-gradient point step trial gradient hessian) (promised (s .state .phase))) r (sym judges ∙ e))
         (record { says = is; leaves-point = refl; leaves-gradient = refl; leaves-hessian = refl; leaves-scratch = rw (early answer-checked r (refl, (refl, tt)) (sym judges ∙ e)) })
 
     module _ (e : v ≡ Passed) where
-      on-promise : judgement s n F new-gradient point step trial gradient hessian scratch ≡ then (judge s n F new-gradient point step trial gradient hessian) (promised (s .phase))
+      on-promise : judgement s n F new-gradient point step trial gradient hessian scratch ≡ then (judge s n F new-gradient point step trial gradient hessian) (promised (s .state .phase))
       unfolding judgement
       on-promise = unless-passed answer-checked _ (sym judges ∙ e)
 
-      pub judges-out-of-turn : promised (s .phase) ≡ refused Turn → (after : After) → after ≡ refusing s Turn
+      pub judges-out-of-turn : promised (s .state .phase) ≡ refused Turn → (after : After) → after ≡ saying s (Refused Turn)
           → Judges (judgement s n F new-gradient point step trial gradient hessian scratch) s point gradient hessian scratch after point gradient hessian scratch
       judges-out-of-turn t after is = rw (on-promise, t) (record { says = is; leaves-point = refl; leaves-gradient = refl; leaves-hessian = refl; leaves-scratch = refl })
 
-      pub judges-in-turn : (p : Promise) (r : After) (point′ gradient′ hessian′ scratch′ : List Float) → promised (s .phase) ≡ given p
+      pub judges-in-turn : (p : Promise) (r : After) (point′ gradient′ hessian′ scratch′ : List Float) → promised (s .state .phase) ≡ given p
           → Judges (judge s n F new-gradient point step trial gradient hessian p) s point gradient hessian scratch r point′ gradient′ hessian′ scratch′
           → Judges (judgement s n F new-gradient point step trial gradient hessian scratch) s point gradient hessian scratch r point′ gradient′ hessian′ scratch′
       judges-in-turn p r point′ gradient′ hessian′ scratch′ t h = rw (on-promise, t) h

@@ -3,8 +3,8 @@ use denote.Struct.Laws as Laws
 use Rattle.thin.proofs.Kind.{Kind, a-kind}
 use Rattle.sr1.proofs.session.Session as S
 use Rattle.sr1.proofs.session.Session.Laws as S′
-use Rattle.sr1.proofs.session.Outcome as O
-use Rattle.sr1.proofs.session.Outcome.Laws as O′
+use Rattle.offer.proofs.state.Outcome as O
+use Rattle.offer.proofs.state.Outcome.Laws as O′
 use Rattle.sr1.proofs.session.After as B
 use Rattle.sr1.proofs.session.After.Laws as B′
 

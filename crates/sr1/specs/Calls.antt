@@ -8,44 +8,36 @@ use Rattle.float.specs.Numbers.{_⊖_, _⊗_}
 use Rattle.float.specs.Constants.{half}
 use Rattle.vectors.specs.Vector.{all-finite}
 use Rattle.vectors.specs.Refusal.{Answer, refused, given, left-in, scratch-after}
-use Rattle.vectors.specs.declared.refusal.Refusal.{Refusal}
 use Rattle.offer.specs.declared.Offered.{Offered}
 use Rattle.offer.specs.declared.Offered.the-variants as offered
-use Rattle.sr1.specs.Session.{in-phase, Proposal, Judgement}
+use Rattle.sr1.specs.Session.{turned, Proposal, Judgement}
+use Rattle.offer.specs.State.{in-phase, verdict-of, told}
 use Rattle.sr1.specs.declared.session.Session.{Session}
-use Rattle.sr1.specs.declared.session.Phase.the-variants.{AwaitingCost}
+use Rattle.offer.specs.declared.state.Phase.the-variants.{AwaitingCost}
 use Rattle.sr1.specs.declared.session.Start.{Start}
 use Rattle.sr1.specs.declared.session.Start.the-variants as start
-use Rattle.sr1.specs.declared.session.Outcome.{Outcome}
-use Rattle.sr1.specs.declared.session.Outcome.the-variants.{Refused, Proposed, Accepted, Rejected}
+use Rattle.offer.specs.declared.state.Outcome.{Outcome}
+use Rattle.offer.specs.declared.state.Outcome.the-variants.{Refused, Proposed}
 use Rattle.sr1.specs.declared.session.After.{After}
 
 abbrev pub begun : Answer Session → Start
 begun (refused r) = start.Refused r
 begun (given s) = start.Started s
 
--- what every refused call returns
-abbrev pub refusing : Session → Refusal → After
-refusing s r = record { session = s; outcome = Refused r }
-
--- the session and the outcome after an answer, for a session s
-abbrev pub told : {A : Type 0} → (A → Session) → (A → Outcome) → Answer A → Session → After
-told session outcome (refused r) s = refusing s r
-told session outcome (given a) s = record { session = session a; outcome = outcome a }
+-- a session, and what a call says
+abbrev pub saying : Session → Outcome → After
+saying s outcome = record { session = s; outcome = outcome }
 
 -- what a proposal returns of the offer that it found: "P .. kept in place of m", where slope is s·g and curvature s·H·s
 abbrev pub after-offer : Session → Offered → After
-after-offer s (offered.Refused r) = refusing s r
-after-offer s (offered.Step passes slope curvature norm) = record { session = in-phase (AwaitingCost (neg slope ⊖ half ⊗ curvature) norm) s; outcome = Proposed passes }
+after-offer s (offered.Refused r) = saying s (Refused r)
+after-offer s (offered.Step passes slope curvature norm) = saying (turned s (in-phase (AwaitingCost (neg slope ⊖ half ⊗ curvature) norm) (s .state))) (Proposed passes)
 
 abbrev pub after-proposal : Answer Proposal → Session → After
-after-proposal = told (λ p. p .session) (λ p. p .outcome)
-
-abbrev pub verdict-of : (accepted : Bool) → (ratio : Float) → Outcome
-verdict-of accepted ratio = cond accepted (Accepted ratio) (Rejected ratio)
+after-proposal = told saying (λ p. p .session) (λ p. p .outcome)
 
 abbrev pub after-judgement : Answer Judgement → Session → After
-after-judgement = told (λ j. j .session) (λ j. verdict-of (j .accepted) (j .ratio))
+after-judgement = told saying (λ j. j .session) (λ j. verdict-of (j .accepted) (j .ratio))
 
 -- ---- each call: s and the lists are those at entry, those with a prime at exit
 

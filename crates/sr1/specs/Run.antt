@@ -5,13 +5,13 @@ use lib.Ieee.{Float}
 use Rattle.vectors.specs.Refusal.{Answer, refused, given, left-in, scratch-after}
 use Rattle.kernels.specs.Kernel.{Kernel}
 use Rattle.offer.specs.Run as Run
-use Rattle.offer.specs.Run.{Vectors, trial-at, answered, proposing}
-use Rattle.sr1.specs.Session.{Promise, promised, Proposal, proposal, Judgement, judgement}
-use Rattle.sr1.specs.Calls.{verdict-of}
+use Rattle.offer.specs.Run.{Vectors, Trial, trial-at, answered, proposing}
+use Rattle.sr1.specs.Session.{Proposal, proposal, Judgement, judgement}
+use Rattle.offer.specs.State.{verdict-of}
 use Rattle.sr1.specs.declared.settings.Settings.{Settings}
 use Rattle.sr1.specs.declared.session.Session.{Session}
-use Rattle.sr1.specs.declared.session.Outcome.{Outcome}
-use Rattle.sr1.specs.declared.session.Outcome.the-variants.{Refused}
+use Rattle.offer.specs.declared.state.Outcome.{Outcome}
+use Rattle.offer.specs.declared.state.Outcome.the-variants.{Refused}
 
 -- ---- what is asked, and what is told
 
@@ -19,9 +19,6 @@ use Rattle.sr1.specs.declared.session.Outcome.the-variants.{Refused}
 pub data Request : Type 0 where
   propose : ℕ → Request
   answer : ℕ → (F : Float) → (G : List Float) → Request
-
-abbrev pub Trial : Type 0
-Trial = Run.Trial Promise
 
 -- of a proposal that it is done, or made with so many passes, and the step and the trial as it leaves them
 pub data Told : Type 0 where
@@ -49,7 +46,7 @@ unfoldable pub on-judgement : Station → Float → Answer Judgement → Done
 on-judgement s F = answered tell (λ (j : Judgement). j .session) leave s
   where
     tell : Judgement → Told
-    tell j = judged (trial-at (λ x. x .cost) (λ x. x .radius) (λ x. promised (x .phase)) s F (j .ratio) (j .accepted) (j .session))
+    tell j = judged (trial-at (λ x. x .state) s F (j .ratio) (j .accepted) (j .session))
 
     leave : Answer Judgement → Vectors → Vectors
     leave a v = record {

@@ -1,66 +1,42 @@
 -- The `SR1TrustRegion` session of document 01, on values: what each of its calls answers, for every input, refused ones too. Definitions only.
 -- A call is a function of the session, of n, and of the lent vectors as they are at entry. Its answer is a refusal, or all that the call changes.
-use mathlib.Core.Bool.{Bool, true, false, not, _&&_, cond}
+use mathlib.Core.Bool.{Bool, not, _&&_, cond}
 use mathlib.Core.List.{List, [], _∷_}
 use Prim.Native.Nat.{ℕ}
 use lib.Ieee.{Float, lt, le, neg}
 use Rattle.float.specs.Numbers.{_⊕_, _⊖_, _⊗_, _⊘_, finite, magnitude}
 use Rattle.float.specs.Constants.{one, two, half, three-quarters, tenth, four-fifths}
 use Rattle.vectors.specs.Vector.{at, tab, flat, dot, norm, row, times, weighted, minus, all-finite}
-use Rattle.vectors.specs.Refusal.{Answer, refused, given, Check, _if_, unless, then, all-hold, size, sized}
+use Rattle.vectors.specs.Refusal.{Answer, given, Check, _if_, unless, then, all-hold, size, sized}
 use Rattle.kernels.specs.Kernel.{Kernel}
 use Rattle.vectors.specs.declared.refusal.Refusal.the-variants.{Size, Setting, Turn, Entry, Range}
 use Rattle.sr1.specs.Settings.{in-range}
-use Rattle.offer.specs.Offer.{all-sized, steady, cost-taken, Offer, offer, stepping}
+use Rattle.offer.specs.Offer.{all-sized, cost-taken, start-checks, Offer, offer, stepping}
+use Rattle.offer.specs.State.{begin, moved, in-phase, steady, is-ready, Promise, promised}
 use Rattle.sr1.specs.declared.settings.Settings.{Settings}
 use Rattle.sr1.specs.declared.session.Session.{Session}
-use Rattle.sr1.specs.declared.session.Phase.{Phase}
-use Rattle.sr1.specs.declared.session.Phase.the-variants.{Ready, AwaitingCost}
-use Rattle.sr1.specs.declared.session.Outcome.{Outcome}
-use Rattle.sr1.specs.declared.session.Outcome.the-variants.{Done, Proposed}
+use Rattle.offer.specs.declared.state.State.{State}
+use Rattle.offer.specs.declared.state.Phase.the-variants.{Ready, AwaitingCost}
+use Rattle.offer.specs.declared.state.Outcome.{Outcome}
+use Rattle.offer.specs.declared.state.Outcome.the-variants.{Done, Proposed}
 
 -- not "a setting out of range or not finite, or a session with negative or not finite radius, or cost not finite"; "a session checks all settings of its kind, whatever its kernel"
 unfoldable pub sound : Session → Bool
 unfolding in-range finite
-sound s = all-hold (in-range (s .settings) ∷ steady (s .radius) (s .cost) ∷ [])
+sound s = all-hold (in-range (s .settings) ∷ steady (s .state) ∷ [])
 
--- ---- phases: "ready; awaiting a cost, with the model value and step norm it was promised on", here "P .. kept in place of m"
-
-abbrev pub is-ready : Phase → Bool
-is-ready Ready = true
-is-ready (AwaitingCost predicted norm) = false
-
--- a session with another radius and cost, in another phase
-abbrev pub moved : Session → (radius cost : Float) → Phase → Session
-moved s radius cost phase = record { settings = s .settings; radius = radius; cost = cost; phase = phase }
-
--- only in another phase
-abbrev pub in-phase : Phase → Session → Session
-in-phase phase s = moved s (s .radius) (s .cost) phase
-
-pub record Promise : Type 0 where
-  pub predicted : Float
-  pub norm : Float
-
--- what a session that awaits a cost was promised on; any other is out of turn
-abbrev pub promised : Phase → Answer Promise
-promised Ready = refused Turn
-promised (AwaitingCost predicted norm) = given (record { predicted = predicted; norm = norm })
+-- the session in another state
+abbrev pub turned : Session → State → Session
+turned s state = record { settings = s .settings; state = state }
 
 -- ---- start: "takes settings and cost only"; "SR1's radius is taken by magnitude first"
 
-abbrev pub start-checks : Settings → Float → List Check
-start-checks settings f =
-    (Setting if not (in-range settings))
-    ∷ (Entry if not (finite f))
-    ∷ []
-
-abbrev pub begin : Settings → (radius f : Float) → Session
-begin settings radius f = record { settings = settings; radius = radius; cost = f; phase = Ready }
+abbrev pub started : Settings → (radius f : Float) → Session
+started settings radius f = record { settings = settings; state = begin radius f }
 
 unfoldable pub start : Settings → Float → Answer Session
 unfolding in-range finite magnitude
-start settings f = unless (start-checks settings f) (given (begin settings (magnitude (settings .radius)) f))
+start settings f = unless (start-checks (in-range settings) f) (given (started settings (magnitude (settings .radius)) f))
 
 -- ---- propose
 
@@ -88,7 +64,7 @@ predicted-fall n gradient hessian step = neg (dot gradient step) ⊖ half ⊗ we
 unfoldable pub awaiting : Session → ℕ → (gradient hessian : List Float) → Offer → Proposal
 unfolding predicted-fall norm
 awaiting s n gradient hessian o = record {
-  session = in-phase (AwaitingCost (predicted-fall n gradient hessian (o .step)) (norm (o .step))) s;
+  session = turned s (in-phase (AwaitingCost (predicted-fall n gradient hessian (o .step)) (norm (o .step))) (s .state));
   outcome = Proposed (o .passes);
   step = o .step;
   trial = o .trial;
@@ -98,7 +74,7 @@ abbrev pub proposal-checks : Session → ℕ → (point gradient hessian step tr
 proposal-checks s n point gradient hessian step trial scratch =
     (Size if not (all-sized n point gradient hessian step trial scratch))
     ∷ (Setting if not (sound s))
-    ∷ (Turn if not (is-ready (s .phase)))
+    ∷ (Turn if not (is-ready (s .state .phase)))
     ∷ (Entry if not (all-finite point && all-finite gradient && all-finite hessian))
     ∷ []
 
@@ -108,7 +84,7 @@ unfolding size sound all-finite converged offer awaiting
 proposal kernel s n point gradient hessian step trial scratch =
     unless (proposal-checks s n point gradient hessian step trial scratch)
     (cond (converged s gradient) (given (done s step trial))
-    (then (λ (o : Offer). given (awaiting s n gradient hessian o)) (stepping (kernel (s .settings)) n (s .radius) point gradient hessian)))
+    (then (λ (o : Offer). given (awaiting s n gradient hessian o)) (stepping (kernel (s .settings)) n (s .state .radius) point gradient hessian)))
 
 -- ---- the answer with a cost F and a gradient G
 
@@ -168,7 +144,7 @@ unfoldable pub settled : Session → (F ratio radius : Float) → (new-gradient 
 settled s F ratio radius new-gradient point trial gradient hessian =
     let accepts = lt (s .settings .eta) ratio in
     record {
-      session = moved s radius (cond accepts F (s .cost)) Ready;
+      session = turned s (moved (s .state) radius (cond accepts F (s .state .cost)) Ready);
       point = cond accepts trial point;
       gradient = cond accepts new-gradient gradient;
       hessian = hessian;
@@ -195,7 +171,7 @@ unfoldable pub judge : Session → ℕ → (F : Float) → (new-gradient point s
 unfolding next-radius updated settled all-finite finite cost-taken
 judge s n F new-gradient point step trial gradient hessian p =
     unless (answer-checks F new-gradient step trial gradient hessian)
-    (verdict s F (fall-ratio (s .cost) F (p .predicted)) (next-radius (fall-ratio (s .cost) F (p .predicted)) (p .norm) (s .radius))
+    (verdict s F (fall-ratio (s .state .cost) F (p .value)) (next-radius (fall-ratio (s .state .cost) F (p .value)) (p .norm) (s .state .radius))
     new-gradient point trial gradient (updated n (s .settings .factor) (p .norm) new-gradient gradient hessian step))
 
 abbrev pub judgement-checks : Session → ℕ → (new-gradient point step trial gradient hessian scratch : List Float) → List Check
@@ -209,4 +185,4 @@ unfoldable pub judgement : Session → ℕ → Float → (new-gradient point ste
 unfolding size sound judge
 judgement s n F new-gradient point step trial gradient hessian scratch =
     unless (judgement-checks s n new-gradient point step trial gradient hessian scratch)
-    (then (judge s n F new-gradient point step trial gradient hessian) (promised (s .phase)))
+    (then (judge s n F new-gradient point step trial gradient hessian) (promised (s .state .phase)))

@@ -1,8 +1,8 @@
 // The same calls on a session that is lent, to be changed in place.
-use crate::session::Outcome;
 use crate::session::Session;
 use crate::sr1_trustregion::judged;
 use crate::sr1_trustregion::proposed;
+use offer::state::Outcome;
 ghost use Rattle.sr1.specs.Settings.{chosen};
 ghost use Rattle.sr1.specs.Session.{proposal, judgement};
 ghost use Rattle.sr1.specs.Calls.{Proposes, Judges};

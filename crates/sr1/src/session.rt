@@ -1,24 +1,20 @@
 // The state that argmin keeps in options and closures, as values.
 use crate::settings;
 use crate::settings::Settings;
-use offer::range;
+use offer::state;
+use offer::state::Outcome;
+use offer::state::State;
 use vectors::refusal;
 use vectors::refusal::Refusal;
 ghost use mathlib.Core.Path.{_≡_};
+ghost use Rattle.offer.specs.declared.state.Outcome.the-variants.{Refused};
 ghost use Rattle.sr1.specs.Session as Definition;
-ghost use Rattle.sr1.specs.Calls as Calls;
-
-// Awaiting a cost, a session holds the predicted fall P and the step norm that it was promised on.
-pub enum Phase {
-    Ready,
-    AwaitingCost(f64, f64),
-}
+ghost use Rattle.sr1.specs.Session.{turned};
+ghost use Rattle.sr1.specs.Calls.{saying};
 
 pub struct Session {
     pub settings: Settings,
-    pub radius: f64,
-    pub cost: f64,
-    pub phase: Phase,
+    pub state: State,
 }
 
 // What a start comes to: a refusal is its number only.
@@ -27,59 +23,33 @@ pub enum Start {
     Started(Session),
 }
 
-// What any other call says: nothing left to do, the passes of a proposal, the ratio of a verdict.
-pub enum Outcome {
-    Refused(Refusal),
-    Done,
-    Proposed(u64),
-    Accepted(f64),
-    Rejected(f64),
-}
-
+// What any other call returns.
 pub struct After {
     pub session: Session,
     pub outcome: Outcome,
 }
 
-// With another radius and cost, in another phase. No other function makes a session from a session.
-pub fn moved(s: Session, radius: f64, cost: f64, phase: Phase) -> Session
-    ensures { λ r. ⌜ r ≡ Definition.moved s radius cost phase ⌝ }
+// The session in another state, and what a call says.
+pub(crate) fn answering(s: Session, state: State, outcome: Outcome) -> After
+    ensures { λ r. ⌜ r ≡ saying (turned s state) outcome ⌝ }
 {
     let settings = s.settings;
-    Session {
-        settings: settings,
-        radius: radius,
-        cost: cost,
-        phase: phase,
+    After {
+        session: Session {
+            settings: settings,
+            state: state,
+        },
+        outcome: outcome,
     }
-}
-
-// Only in another phase.
-pub(crate) fn in_phase(s: Session, phase: Phase) -> Session
-    ensures { λ r. ⌜ r ≡ Definition.in-phase phase s ⌝ }
-{
-    moved(s, s.radius, s.cost, phase)
 }
 
 // What every refused call returns: the session keeps its bits.
 pub(crate) fn refusing(s: Session, refusal: Refusal) -> After
-    ensures { λ r. ⌜ r ≡ Calls.refusing s refusal ⌝ }
+    ensures { λ r. ⌜ r ≡ saying s (Refused refusal) ⌝ }
 {
     After {
         session: s,
         outcome: Outcome::Refused(refusal),
-    }
-}
-
-// A session that begins: ready, with its radius and the start's cost.
-pub fn begin(settings: Settings, radius: f64, cost: f64) -> Session
-    ensures { λ r. ⌜ r ≡ Definition.begin settings radius cost ⌝ }
-{
-    Session {
-        settings,
-        radius,
-        cost,
-        phase: Phase::Ready,
     }
 }
 
@@ -88,19 +58,6 @@ pub fn sound(s: Session) -> bool
     ensures { λ r. ⌜ r ≡ Definition.sound s ⌝ }
 {
     let settings = s.settings;
-    refusal::all_hold(
-        &[
-            settings::in_range(settings),
-            range::steady(s.radius, s.cost),
-        ],
-    )
-}
-
-pub fn is_ready(phase: Phase) -> bool
-    ensures { λ r. ⌜ r ≡ Definition.is-ready phase ⌝ }
-{
-    match phase {
-        Phase::Ready => true,
-        Phase::AwaitingCost(_, _) => false,
-    }
+    let state = s.state;
+    refusal::all_hold(&[settings::in_range(settings), state::steady(state)])
 }

@@ -2,8 +2,6 @@
 // in the order of argmin's steps. Nothing is written before the last refusal is decided.
 use crate::session;
 use crate::session::After;
-use crate::session::Outcome;
-use crate::session::Phase;
 use crate::session::Session;
 use crate::session::Start;
 use crate::settings;
@@ -11,6 +9,9 @@ use crate::settings::Settings;
 use offer::Offered;
 use offer::lent;
 use offer::range;
+use offer::state;
+use offer::state::Outcome;
+use offer::state::Phase;
 use vectors::refusal;
 use vectors::refusal::Refusal;
 use vectors::refusal::Verdict;
@@ -45,7 +46,10 @@ pub fn start(settings: Settings, cost: f64) -> Start
         Verdict::Failed(r) => Start::Refused(r),
         Verdict::Passed => {
             let radius = float::magnitude(settings.radius);
-            Start::Started(session::begin(settings, radius, cost))
+            Start::Started(Session {
+                settings: settings,
+                state: state::begin(radius, cost),
+            })
         }
     }
 }
@@ -72,10 +76,11 @@ fn awaiting(s: Session, offered: Offered) -> After
             norm,
         } => {
             let predicted = predicted_fall(slope, curvature);
-            After {
-                session: session::in_phase(s, Phase::AwaitingCost(predicted, norm)),
-                outcome: Outcome::Proposed(passes),
-            }
+            session::answering(
+                s,
+                state::in_phase(s.state, Phase::AwaitingCost(predicted, norm)),
+                Outcome::Proposed(passes),
+            )
         }
     }
 }
@@ -102,9 +107,10 @@ pub fn proposed(
         s (now (step .entry)) (now (trial .entry)) (now (scratch .entry)) r (now (step .exit)) (now (trial .exit)) (now (scratch .exit)) ⌝ }
 {
     let choice = s.settings.choice;
-    let phase = s.phase;
+    let state = s.state;
+    let phase = state.phase;
     let sound = session::sound(s);
-    let ready = session::is_ready(phase);
+    let ready = state::is_ready(phase);
     let checks = range::proposal(
         n,
         sound,
@@ -129,7 +135,7 @@ pub fn proposed(
             let offered = offer::make_unchecked(
                 choice,
                 n,
-                s.radius,
+                s.state.radius,
                 point,
                 gradient,
                 hessian,
@@ -366,14 +372,14 @@ fn judge(
     scratch: &mut [f64],
 ) -> After
     requires { ⌜ judged (judgement-checks s n (now «new_gradient») (now point) (now step) (now trial) (now gradient) (now hessian) (now scratch)) ≡ Passed ⌝ }
-    ensures { λ r. ⌜ Judges (Definition.judge s n answer (now («new_gradient» .entry)) (now (point .entry)) (now (step .entry)) (now (trial .entry)) (now (gradient .entry)) (now (hessian .entry)) (record { predicted = predicted; norm = norm }))
+    ensures { λ r. ⌜ Judges (Definition.judge s n answer (now («new_gradient» .entry)) (now (point .entry)) (now (step .entry)) (now (trial .entry)) (now (gradient .entry)) (now (hessian .entry)) (record { value = predicted; norm = norm }))
         s (now (point .entry)) (now (gradient .entry)) (now (hessian .entry)) (now (scratch .entry)) r (now (point .exit)) (now (gradient .exit)) (now (hessian .exit)) (now (scratch .exit)) ⌝ }
 {
     if !answered(answer, new_gradient, step, trial, gradient, hessian) {
         return session::refusing(s, Refusal::Entry);
     }
-    let ratio = fall_ratio(s.cost, answer, predicted);
-    let next = next_radius(ratio, norm, s.radius);
+    let ratio = fall_ratio(s.state.cost, answer, predicted);
+    let next = next_radius(ratio, norm, s.state.radius);
     if !float::finite(next) {
         vector::clear(scratch);
         return session::refusing(s, Refusal::Range);
@@ -393,15 +399,17 @@ fn judge(
     if s.settings.eta < ratio {
         lent::copy(trial, point);
         lent::copy(new_gradient, gradient);
-        return After {
-            session: session::moved(s, next, answer, Phase::Ready),
-            outcome: Outcome::Accepted(ratio),
-        };
+        return session::answering(
+            s,
+            state::moved(s.state, next, answer, Phase::Ready),
+            Outcome::Accepted(ratio),
+        );
     }
-    After {
-        session: session::moved(s, next, s.cost, Phase::Ready),
-        outcome: Outcome::Rejected(ratio),
-    }
+    session::answering(
+        s,
+        state::moved(s.state, next, s.state.cost, Phase::Ready),
+        Outcome::Rejected(ratio),
+    )
 }
 
 pub fn judged(
@@ -419,7 +427,8 @@ pub fn judged(
     ensures { λ r. ⌜ Judges (judgement s n cost (now («new_gradient» .entry)) (now (point .entry)) (now (step .entry)) (now (trial .entry)) (now (gradient .entry)) (now (hessian .entry)) (now (scratch .entry)))
         s (now (point .entry)) (now (gradient .entry)) (now (hessian .entry)) (now (scratch .entry)) r (now (point .exit)) (now (gradient .exit)) (now (hessian .exit)) (now (scratch .exit)) ⌝ }
 {
-    let phase = s.phase;
+    let state = s.state;
+    let phase = state.phase;
     let checks = judgement_checked(
         s,
         n,
@@ -449,6 +458,7 @@ pub fn judged(
                 scratch,
             ),
             Phase::Ready => session::refusing(s, Refusal::Turn),
+            Phase::AwaitingDerivatives => session::refusing(s, Refusal::Turn),
         },
     }
 }

@@ -15,11 +15,12 @@ use Rattle.offer.specs.Run.{Vectors, Lending, own, others, lending-it, entry, p
 use Rattle.offer.proofs.Checks.{scratch-length}
 use Rattle.offer.proofs.Lengths.{lent-true}
 use Rattle.offer.proofs.Runs.{perform-elim, Follows}
-use Rattle.trustregion.specs.Session.{is-ready, awaits-cost, in-phase, Promise, awaiting, rho, next-radius, settled}
+use Rattle.trustregion.specs.Session.{turned, awaiting, rho, next-radius, settled}
+use Rattle.offer.specs.State.{in-phase, is-ready, awaits-cost, Promise}
 use Rattle.trustregion.specs.Run.{Station, Request, Call, Reply, Done, on-proposal, on-judgement, on-renewal, respond, opens-trial, took-nan}
 use Rattle.trustregion.specs.declared.settings.Settings.{Settings}
-use Rattle.trustregion.specs.declared.session.Phase.{Phase}
-use Rattle.trustregion.specs.declared.session.Phase.the-variants.{Ready, AwaitingCost, AwaitingDerivatives}
+use Rattle.offer.specs.declared.state.Phase.{Phase}
+use Rattle.offer.specs.declared.state.Phase.the-variants.{Ready, AwaitingCost, AwaitingDerivatives}
 use Rattle.trustregion.proofs.Answers.{joined, sizes, Held, promise-held, offered-at, judged-by, Came, refuses, offers, judges, renews, comes, alone}
 
 -- The same but for the rest, that as large, and where a cost is awaited the same step and trial.
@@ -28,10 +29,10 @@ pub record Alike (s t : Station) : Type 0 where
   pub as-large : sizes s ≡ sizes t
   pub held : Held s t
 
-pub same-phase : {s t : Station} → Alike s t → s .session .phase ≡ t .session .phase
-same-phase a = λ i. a .same i .session .phase
+pub same-phase : {s t : Station} → Alike s t → s .session .state .phase ≡ t .session .state .phase
+same-phase a = λ i. a .same i .session .state .phase
 
-still-awaits : {s t : Station} → Alike s t → T (awaits-cost (s .session .phase)) → T (awaits-cost (t .session .phase))
+still-awaits : {s t : Station} → Alike s t → T (awaits-cost (s .session .state .phase)) → T (awaits-cost (t .session .state .phase))
 still-awaits a = subst (λ (x : Phase). T (awaits-cost x)) (same-phase a)
 
 pub alike-refl : (s : Station) → Alike s s
@@ -57,7 +58,7 @@ elsewhere v s t a = record { same = λ i. lending-it v (a .same i); as-large = r
 
 -- s in another phase; and as a rejection with the radius kept leaves it
 abbrev in-turn : Phase → Station → Station
-in-turn phase s = record { session = in-phase phase (s .session); lent = s .lent }
+in-turn phase s = record { session = turned (s .session) (in-phase phase (s .session .state)); lent = s .lent }
 
 abbrev pub back : Station → Station
 back = in-turn Ready
@@ -75,7 +76,7 @@ came-follows kernel s t d e z held (offers n m fits ready i) =
     scratch-length (given (offered-at s n m)) (s .lent .scratch) ∙ (λ j. z j .2) ∙ sym (scratch-length (given (offered-at s n m)) (t .lent .scratch)) in
     record { reply = refl; after = record { same = refl; as-large = λ i. (length (m .step), length (plus n (m .step) (s .lent .point)), cleared i); held = λ w. (refl, refl) } }
 came-follows kernel s t d e z held (judges F p i w) =
-    let h = held (promise-held (s .session .phase) p i) in
+    let h = held (promise-held (s .session .state .phase) p i) in
     record { reply = rw (h .0, h .1); after = record { same = rw (h .1); as-large = z; held = λ v. h } }
 came-follows kernel s t d e z held (renews g H) = record { reply = refl; after = record { same = refl; as-large = z; held = λ w. absurd w } }
 
@@ -160,11 +161,11 @@ module _ (kernel : Settings → Kernel) (proper : (t : Settings) (n : ℕ) (radi
   came-opens s t d e (refuses r w v l m) u = absurd u
   came-opens s t d e (offers n m fits ready i) w =
       let f = lent-true n (length (s .lent .point)) (length (s .lent .gradient)) (length (s .lent .hessian)) (length (s .lent .step)) (length (s .lent .trial)) (length (s .lent .scratch)) (is-true _ fits) in
-      let long : length (m .step) ≡ n = rw i at (proper (s .session .settings) n (s .session .radius) (s .lent .gradient) (s .lent .hessian)) in
+      let long : length (m .step) ≡ n = rw i at (proper (s .session .settings) n (s .session .state .radius) (s .lent .gradient) (s .lent .hessian)) in
       let step : length (m .step) ≡ length (s .lent .step) = long ∙ sym (f .step) in
       let trial : length (plus n (m .step) (s .lent .point)) ≡ length (s .lent .trial) = length-plus n (m .step) (s .lent .point) ∙ sym (f .trial) in
       record {
-        same = λ j. joined (in-turn (ready-is (s .session .phase) ready j) s) s;
+        same = λ j. joined (in-turn (ready-is (s .session .state .phase) ready j) s) s;
         as-large = λ j. (step j, trial j, scratch-length (given (offered-at s n m)) (s .lent .scratch) j);
         held = λ v. absurd v;
       }

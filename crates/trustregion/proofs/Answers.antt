@@ -9,18 +9,19 @@ use Rattle.vectors.specs.Refusal.{Answer, refused, given, Check, then}
 use Rattle.kernels.specs.Kernel.{Kernel, Made}
 use Rattle.vectors.specs.declared.refusal.Refusal.{Refusal}
 use Rattle.offer.specs.Offer.{all-sized, Offer, offered, offer-checks, offer, step-checks, stepping}
-use Rattle.trustregion.specs.Session.{sound, is-ready, awaits-cost, Promise, promised, Proposal, awaiting, proposal-checks, proposal, Judgement, rho, radius-by, settled, answer-checks, verdict-checks, judge, judgement-checks, judgement, Renewal, renewal-checks, renewed-by, renewal}
+use Rattle.trustregion.specs.Session.{sound, Proposal, awaiting, proposal-checks, proposal, Judgement, rho, radius-by, settled, answer-checks, verdict-checks, judge, judgement-checks, judgement, Renewal, renewal-checks, renewed-by, renewal}
+use Rattle.offer.specs.State.{is-ready, awaits-cost, Promise, promised}
 use Rattle.trustregion.specs.Run.{Station, Request, propose, cost, derivatives, Done, on-proposal, on-judgement, on-renewal, proposal-at, judgement-at, renewal-at, respond}
 use Rattle.trustregion.specs.declared.settings.Settings.{Settings}
-use Rattle.trustregion.specs.declared.session.Phase.{Phase}
-use Rattle.trustregion.specs.declared.session.Phase.the-variants.{Ready, AwaitingCost, AwaitingDerivatives}
+use Rattle.offer.specs.declared.state.Phase.{Phase}
+use Rattle.offer.specs.declared.state.Phase.the-variants.{Ready, AwaitingCost, AwaitingDerivatives}
 use Rattle.offer.proofs.Checks.{unless-elim, then-elim, not-not, clash, scratch-length}
 use Rattle.offer.proofs.Runs.{answer-elim, unless-both}
 
 -- What a run goes by, of s; the rest, of t. (Another field of a session is said here, to be the one or the other, and in no other place of these files.)
 abbrev pub joined : Station → Station → Station
 joined s t = record {
-  session = record { settings = s .session .settings; radius = s .session .radius; cost = s .session .cost; phase = s .session .phase };
+  session = record { settings = s .session .settings; state = record { radius = s .session .state .radius; cost = s .session .state .cost; phase = s .session .state .phase } };
   lent = record { point = s .lent .point; gradient = s .lent .gradient; hessian = s .lent .hessian; step = t .lent .step; trial = t .lent .trial; scratch = t .lent .scratch };
 }
 
@@ -29,7 +30,7 @@ abbrev pub sizes : Station → ℕ × ℕ × ℕ
 sizes s = (length (s .lent .step), length (s .lent .trial), length (s .lent .scratch))
 
 abbrev pub Held : Station → Station → Type 0
-Held s t = T (awaits-cost (s .session .phase)) → (s .lent .step ≡ t .lent .step) × (s .lent .trial ≡ t .lent .trial)
+Held s t = T (awaits-cost (s .session .state .phase)) → (s .lent .step ≡ t .lent .step) × (s .lent .trial ≡ t .lent .trial)
 
 pub promise-held : (phase : Phase) (p : Promise) → promised phase ≡ given p → T (awaits-cost phase)
 promise-held Ready p e = absurd (clash e)
@@ -49,17 +50,17 @@ offered-at s n m = awaiting (s .session) n (s .lent .gradient) (s .lent .hessian
 
 abbrev pub judged-by : Station → Float → Promise → Judgement
 judged-by s F p =
-    let ratio = rho (s .session .cost) F (p .model) in
+    let ratio = rho (s .session .state .cost) F (p .value) in
     settled (s .session) F ratio (radius-by (s .session) ratio (p .norm)) (s .lent .point) (s .lent .trial)
 
 -- Refused, it keeps all but what the scratch holds.
 pub data Came (kernel : Settings → Kernel) (s t : Station) : Done → Done → Type 0 where
   refuses : (r : Refusal) (w v : List Float) → length w ≡ length (s .lent .scratch) → length v ≡ length (t .lent .scratch)
       → Came kernel s t (record { reply = refused r; after = with-scratch s w }) (record { reply = refused r; after = with-scratch (joined s t) v })
-  offers : (n : ℕ) (m : Made) → T (all-sized n (s .lent .point) (s .lent .gradient) (s .lent .hessian) (s .lent .step) (s .lent .trial) (s .lent .scratch)) → T (is-ready (s .session .phase))
-      → kernel (s .session .settings) n (s .session .radius) (s .lent .gradient) (s .lent .hessian) ≡ given m
+  offers : (n : ℕ) (m : Made) → T (all-sized n (s .lent .point) (s .lent .gradient) (s .lent .hessian) (s .lent .step) (s .lent .trial) (s .lent .scratch)) → T (is-ready (s .session .state .phase))
+      → kernel (s .session .settings) n (s .session .state .radius) (s .lent .gradient) (s .lent .hessian) ≡ given m
       → Came kernel s t (on-proposal s (given (offered-at s n m))) (on-proposal (joined s t) (given (offered-at (joined s t) n m)))
-  judges : (F : Float) (p : Promise) → promised (s .session .phase) ≡ given p → T (sound (s .session))
+  judges : (F : Float) (p : Promise) → promised (s .session .state .phase) ≡ given p → T (sound (s .session))
       → Came kernel s t (on-judgement s F (given (judged-by s F p))) (on-judgement (joined s t) F (given (judged-by (joined s t) F p)))
   renews : (g H : List Float) → Came kernel s t (on-renewal s (given (renewed-by (s .session) g H))) (on-renewal (joined s t) (given (renewed-by (joined s t .session) g H)))
 
@@ -94,13 +95,13 @@ module _ (kernel : Settings → Kernel) (s t : Station) (as-large : sizes s ≡ 
   came-proposal : (n : ℕ) → Proposals (proposal-at kernel s n) (proposal-at kernel (joined s t) n)
   unfolding proposal offer
   came-proposal n =
-      let step = kernel (s .session .settings) n (s .session .radius) (s .lent .gradient) (s .lent .hessian) in
-      let way = stepping (kernel (s .session .settings)) n (s .session .radius) (s .lent .point) (s .lent .gradient) (s .lent .hessian) in
+      let step = kernel (s .session .settings) n (s .session .state .radius) (s .lent .gradient) (s .lent .hessian) in
+      let way = stepping (kernel (s .session .settings)) n (s .session .state .radius) (s .lent .point) (s .lent .gradient) (s .lent .hessian) in
       unless-both Proposals (same-checks n) (follows s n way) (follows (joined s t) n way) no-proposal (λ w.
-      unless-elim (λ (x : Answer Offer). Proposals (follows s n x) (follows (joined s t) n x)) (step-checks (s .session .radius)) (then (offer n (s .lent .point)) step) no-proposal (λ far.
+      unless-elim (λ (x : Answer Offer). Proposals (follows s n x) (follows (joined s t) n x)) (step-checks (s .session .state .radius)) (then (offer n (s .lent .point)) step) no-proposal (λ far.
       then-elim (λ (x : Answer Offer). Proposals (follows s n x) (follows (joined s t) n x)) (offer n (s .lent .point)) step no-proposal (λ m e.
       unless-elim (λ (x : Answer Offer). Proposals (follows s n x) (follows (joined s t) n x)) (offer-checks (offered n (s .lent .point) m)) (given (offered n (s .lent .point) m)) no-proposal (λ v.
-      offers n m (not-not (all-sized n (s .lent .point) (s .lent .gradient) (s .lent .hessian) (s .lent .step) (s .lent .trial) (s .lent .scratch)) (w .0)) (not-not (is-ready (s .session .phase)) (w .1 .1 .0)) e))))
+      offers n m (not-not (all-sized n (s .lent .point) (s .lent .gradient) (s .lent .hessian) (s .lent .step) (s .lent .trial) (s .lent .scratch)) (w .0)) (not-not (is-ready (s .session .state .phase)) (w .1 .1 .0)) e))))
 
   -- ---- the answer with a cost looks at the trial where a cost is awaited
   module _ (n : ℕ) (F : Float) where
@@ -121,10 +122,10 @@ module _ (kernel : Settings → Kernel) (s t : Station) (as-large : sizes s ≡ 
     came-judgement : Judgements (judgement-at s n F) (judgement-at (joined s t) n F)
     unfolding judgement judge
     came-judgement =
-        unless-both Judgements same-answer-checks (then (judge-at s) (promised (s .session .phase))) (then (judge-at (joined s t)) (promised (s .session .phase))) no-judgement (λ w.
-        answer-elim (λ (x : Answer Promise). Judgements (then (judge-at s) x) (then (judge-at (joined s t)) x)) (promised (s .session .phase)) no-judgement (λ p e.
-        unless-both Judgements (ap (answer-checks F) (held (promise-held (s .session .phase) p e) .1)) _ _ no-judgement (λ u.
-        unless-both Judgements {cs = verdict-checks (radius-by (s .session) (rho (s .session .cost) F (p .model)) (p .norm))} refl _ _ no-judgement (λ v.
+        unless-both Judgements same-answer-checks (then (judge-at s) (promised (s .session .state .phase))) (then (judge-at (joined s t)) (promised (s .session .state .phase))) no-judgement (λ w.
+        answer-elim (λ (x : Answer Promise). Judgements (then (judge-at s) x) (then (judge-at (joined s t)) x)) (promised (s .session .state .phase)) no-judgement (λ p e.
+        unless-both Judgements (ap (answer-checks F) (held (promise-held (s .session .state .phase) p e) .1)) _ _ no-judgement (λ u.
+        unless-both Judgements {cs = verdict-checks (radius-by (s .session) (rho (s .session .state .cost) F (p .value)) (p .norm))} refl _ _ no-judgement (λ v.
         judges F p e (not-not (sound (s .session)) (w .1 .0))))))
 
   -- ---- the answer with derivatives looks at none of it

@@ -9,12 +9,12 @@ use Rattle.vectors.specs.Vector.{zeros}
 use Rattle.vectors.specs.Refusal.{Answer, refused, given, number, room}
 use Rattle.kernels.specs.Choice as Choice
 use Rattle.trustregion.specs.Settings.{by-default, chosen}
-use Rattle.trustregion.specs.Session.{proposal, next-radius, judgement}
-use Rattle.offer.specs.Run.{own, others, run, final, calls, lent-same}
-use Rattle.trustregion.specs.Run.{Station, Request, propose, cost, derivatives, Call, respond, strike, Trial, trials}
+use Rattle.trustregion.specs.Session.{started, proposal, next-radius, judgement}
+use Rattle.offer.specs.Run.{Trial, own, others, run, final, calls, lent-same}
+use Rattle.trustregion.specs.Run.{Station, Request, propose, cost, derivatives, Call, respond, strike, trials}
 use Rattle.trustregion.specs.declared.session.Session.{Session}
-use Rattle.trustregion.specs.declared.session.Phase.{Phase}
-use Rattle.trustregion.specs.declared.session.Phase.the-variants.{Ready, AwaitingCost, AwaitingDerivatives}
+use Rattle.offer.specs.declared.state.Phase.{Phase}
+use Rattle.offer.specs.declared.state.Phase.the-variants.{Ready, AwaitingCost, AwaitingDerivatives}
 
 infix 30 _over_
 -- a / b, rounded once
@@ -33,7 +33,7 @@ far-off = refl
 unfoldable pub station : Station
 unfolding _over_ zeros
 station = record {
-  session = record { settings = by-default 1 5; radius = 5 over 2; cost = 10 over 1; phase = Ready };
+  session = started (by-default 1 5) (5 over 2) (10 over 1);
   lent = record {
     point = one ∷ one ∷ [];
     gradient = (3 over 1) ∷ (4 over 1) ∷ [];
@@ -68,7 +68,7 @@ same-numbers (x ∷ xs) (y ∷ ys) = eq x y && same-numbers xs ys
 
 -- the radius and the point at the end
 abbrev pub Ends : List Call → List Float → Type 0
-Ends cs wanted = same-numbers (final (respond chosen) station cs .session .radius ∷ final (respond chosen) station cs .lent .point) wanted ≡ true
+Ends cs wanted = same-numbers (final (respond chosen) station cs .session .state .radius ∷ final (respond chosen) station cs .lent .point) wanted ≡ true
 
 -- What is left is the second trial, and both runs end alike.
 pub record Struck : Type 0 where
@@ -89,7 +89,7 @@ numbered (refused r) = number r
 numbered (given a) = 0
 
 abbrev session : (radius f : Float) → Phase → Session
-session radius f phase = record { settings = by-default 1 5; radius = radius; cost = f; phase = phase }
+session radius f phase = record { settings = by-default 1 5; state = record { radius = radius; cost = f; phase = phase } }
 
 -- a proposal asked of a session at the station's vectors but for the point, and an answer of F to one
 abbrev asked : (radius f : Float) → Phase → ℕ → (point : List Float) → ℕ

@@ -8,10 +8,12 @@ use lib.Ieee.{Float}
 use Rattle.vectors.specs.Refusal.{Answer, given}
 use Rattle.kernels.specs.Kernel.{Kernel, Proper}
 use Rattle.kernels.proofs.Choices.{kernel-proper}
-use Rattle.trustregion.specs.Settings.{chosen}
-use Rattle.trustregion.specs.Session.{awaits-cost, start-checks, start}
-use Rattle.offer.specs.Run.{run, final, calls, lent-same, Thinned}
-use Rattle.trustregion.specs.Run.{Station, Call, Trial, Entry, respond, strike}
+use Rattle.trustregion.specs.Settings.{in-range, chosen}
+use Rattle.offer.specs.Offer.{start-checks}
+use Rattle.trustregion.specs.Session.{start}
+use Rattle.offer.specs.State.{awaits-cost}
+use Rattle.offer.specs.Run.{Trial, run, final, calls, lent-same, Thinned}
+use Rattle.trustregion.specs.Run.{Station, Call, Entry, respond, strike}
 use Rattle.trustregion.specs.Demand3.{Fair, Within, Same-run, Demand-3}
 use Rattle.trustregion.specs.declared.settings.Settings.{Settings}
 use Rattle.trustregion.specs.declared.session.Session.{Session}
@@ -28,7 +30,7 @@ abbrev pub All-proper : (Settings → Kernel) → Type 0
 All-proper kernel = (t : Settings) (n : ℕ) (radius : Float) (g H : List Float) → Proper n (kernel t n radius g H)
 
 module _ (kernel : Settings → Kernel) (proper : All-proper kernel) where
-  struck : (start : Station) → T (not (awaits-cost (start .session .phase)))
+  struck : (start : Station) → T (not (awaits-cost (start .session .state .phase)))
       → (whole : List Call) → T (lent-same (run (respond kernel) start whole))
       → (kept : List Entry) → Thinned (strike (run (respond kernel) start whole)) kept
       → Same-run kernel start whole kept
@@ -45,11 +47,11 @@ module _ (kernel : Settings → Kernel) (proper : All-proper kernel) where
       let ends : final (respond kernel) start (calls kept) ≡ joined (final (respond kernel) start whole) (final (respond kernel) start (calls kept)) = sym (e .same) in
       record {
         replies = b .replies;
-        kept-trials = thinned-trials thin ∙ strike-seen kernel whole false start (λ w. absurd (T-not (awaits-cost (start .session .phase)) idle w));
-        phase = λ i. ends i .session .phase;
-        radius = λ i. ends i .session .radius;
+        kept-trials = thinned-trials thin ∙ strike-seen kernel whole false start (λ w. absurd (T-not (awaits-cost (start .session .state .phase)) idle w));
+        phase = λ i. ends i .session .state .phase;
+        radius = λ i. ends i .session .state .radius;
         point = λ i. ends i .lent .point;
-        cost = λ i. ends i .session .cost;
+        cost = λ i. ends i .session .state .cost;
         gradient = λ i. ends i .lent .gradient;
         hessian = λ i. ends i .lent .hessian;
       }
@@ -62,15 +64,15 @@ module _ (kernel : Settings → Kernel) (proper : All-proper kernel) where
   }
 
 -- a session that was started is not inside a trial
-pub started-idle : (t : Settings) (f : Float) (s : Session) → start t f ≡ given s → T (not (awaits-cost (s .phase)))
+pub started-idle : (t : Settings) (f : Float) (s : Session) → start t f ≡ given s → T (not (awaits-cost (s .state .phase)))
 unfolding start
-started-idle t f s = unless-elim (λ (a : Answer Session). a ≡ given s → T (not (awaits-cost (s .phase)))) (start-checks t f) _ (λ r e. absurd (clash e)) (λ w e. idle e tt)
+started-idle t f s = unless-elim (λ (a : Answer Session). a ≡ given s → T (not (awaits-cost (s .state .phase)))) (start-checks (in-range t) f) _ (λ r e. absurd (clash e)) (λ w e. idle e tt)
   where
     same : {x : Session} → given x ≡ given s → x ≡ s
     same e = cc
 
-    idle : {x : Session} → given x ≡ given s → T (not (awaits-cost (x .phase))) → T (not (awaits-cost (s .phase)))
-    idle e = subst (λ (x : Session). T (not (awaits-cost (x .phase)))) (same e)
+    idle : {x : Session} → given x ≡ given s → T (not (awaits-cost (x .state .phase))) → T (not (awaits-cost (s .state .phase)))
+    idle e = subst (λ (x : Session). T (not (awaits-cost (x .state .phase)))) (same e)
 
 pub for-our-kernels : Demand-3 chosen
 for-our-kernels = for-proper chosen (λ t. kernel-proper (t .choice))

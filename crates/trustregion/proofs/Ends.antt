@@ -19,33 +19,35 @@ use Rattle.vectors.specs.declared.refusal.Verdict.the-variants.{Passed, Failed}
 use Rattle.vectors.proofs.Sizes.{each-holds, vectors-true}
 use Rattle.kernels.proofs.Choices.{in-range-known}
 use Rattle.kernels.proofs.Kernels.{unless-passed, unless-failed, early, first-passed}
-use Rattle.offer.specs.Offer.{all-sized, steady, cost-taken, Offer, stepping}
+use Rattle.offer.specs.Offer.{all-sized, cost-taken, start-checks, Offer, stepping}
+use Rattle.offer.specs.State.{begin, moved, in-phase, steady, Promise, promised}
 use Rattle.offer.specs.Calls.{replaced, offering, Offers}
 use Rattle.offer.specs.declared.Offered.{Offered}
 use Rattle.offer.proofs.Lengths.{copied}
 use Rattle.offer.proofs.Offers.{offers-kernel}
 use Rattle.trustregion.specs.Settings.{ranges, in-range, chosen}
-use Rattle.trustregion.specs.Session.{sound, moved, in-phase, Promise, promised, start-checks, begin, start, model-value, Proposal, awaiting, proposal-checks, proposal, rho, radius-by, settled, verdict, judge, judgement-checks, judgement, renewal-checks, renewed-by, renewal}
+use Rattle.trustregion.specs.Session.{sound, turned, started, start, model-value, Proposal, awaiting, proposal-checks, proposal, rho, radius-by, settled, verdict, judge, judgement-checks, judgement, renewal-checks, renewed-by, renewal}
 use Rattle.trustregion.specs.Calls as Calls
-use Rattle.trustregion.specs.Calls.{refusing, after-offer, Proposes, Judges, Renews}
+use Rattle.trustregion.specs.Calls.{saying, after-offer, Proposes, Judges, Renews}
 use Rattle.trustregion.specs.declared.settings.Settings.{Settings}
 use Rattle.trustregion.specs.declared.session.Session.{Session}
 use Rattle.trustregion.specs.declared.session.Start.the-variants as begun
-use Rattle.trustregion.specs.declared.session.Phase.the-variants.{Ready, AwaitingDerivatives}
-use Rattle.trustregion.specs.declared.session.Outcome.the-variants.{Accepted, Rejected, Taken}
+use Rattle.offer.specs.declared.state.State.{State}
+use Rattle.offer.specs.declared.state.Phase.the-variants.{Ready, AwaitingDerivatives}
+use Rattle.offer.specs.declared.state.Outcome.the-variants.{Refused, Accepted, Rejected, Taken}
 use Rattle.trustregion.specs.declared.session.After.{After}
 use Rattle.offer.proofs.Checks.{passed-none, not-not}
 
 -- ---- the start
 
-module _ (t : Settings) (f : Float) (v : Verdict) (judges : v ≡ judged (start-checks t f)) where
+module _ (t : Settings) (f : Float) (v : Verdict) (judges : v ≡ judged (start-checks (in-range t) f)) where
   pub starts-not : (r : Refusal) → v ≡ Failed r → begun.Refused r ≡ Calls.begun (start t f)
   unfolding start
-  starts-not r e = rw (unless-failed (start-checks t f) (given (begin t (t .radius) f)) r (sym judges ∙ e))
+  starts-not r e = rw (unless-failed (start-checks (in-range t) f) (given (started t (t .radius) f)) r (sym judges ∙ e))
 
-  pub starts : v ≡ Passed → (s : Session) → s ≡ begin t (t .radius) f → begun.Started s ≡ Calls.begun (start t f)
+  pub starts : v ≡ Passed → (state : State) → state ≡ begin (t .radius) f → begun.Started (record { settings = t; state = state }) ≡ Calls.begun (start t f)
   unfolding start
-  starts e s is = rw (is, unless-passed (start-checks t f) (given (begin t (t .radius) f)) (sym judges ∙ e))
+  starts e state is = rw (is, unless-passed (start-checks (in-range t) f) (given (started t (t .radius) f)) (sym judges ∙ e))
 
 -- ---- the proposal
 
@@ -53,7 +55,7 @@ module _ (t : Settings) (f : Float) (v : Verdict) (judges : v ≡ judged (start-
 kernel-known : (s : Session) → sound s ≡ true → Choice.known (s .settings .choice .kernel) ≡ true
 unfolding sound in-range
 kernel-known s e =
-    let ranged = each-holds (in-range (s .settings) ∷ steady (s .radius) (s .cost) ∷ []) e .0 in
+    let ranged = each-holds (in-range (s .settings) ∷ steady (s .state) ∷ []) e .0 in
     in-range-known (s .settings .choice) (each-holds (ranges (s .settings)) ranged .0)
 
 -- v is the code's verdict on the checks; `after` is what it returns, or the session of that
@@ -67,29 +69,29 @@ module _ (s : Session) (n : ℕ) (point gradient hessian step trial scratch : Li
   abbrev proposes : Answer Proposal → After → (step′ trial′ scratch′ : List Float) → Type 0
   proposes a = Proposes a s step trial scratch
 
-  pub proposes-not : (r : Refusal) → v ≡ Failed r → (after : After) → after ≡ refusing s r → proposes (proposal chosen s n point gradient hessian step trial scratch) after step trial scratch
+  pub proposes-not : (r : Refusal) → v ≡ Failed r → (after : After) → after ≡ saying s (Refused r) → proposes (proposal chosen s n point gradient hessian step trial scratch) after step trial scratch
   unfolding proposal
   proposes-not r e after is =
-      rw (unless-failed checks (keeping (stepping (chosen (s .settings)) n (s .radius) point gradient hessian)) r (sym judges ∙ e))
+      rw (unless-failed checks (keeping (stepping (chosen (s .settings)) n (s .state .radius) point gradient hessian)) r (sym judges ∙ e))
       (record { says = is; leaves-step = refl; leaves-trial = refl; leaves-scratch = rw (early checks r (refl, (refl, (refl, (refl, tt)))) (sym judges ∙ e)) })
 
   module _ (e : v ≡ Passed) (found : Offered) (step′ trial′ scratch′ : List Float)
-      (offers : Offers n gradient hessian (offering (s .settings .choice) n (s .radius) point gradient hessian step trial scratch)
+      (offers : Offers n gradient hessian (offering (s .settings .choice) n (s .state .radius) point gradient hessian step trial scratch)
       found step trial scratch step′ trial′ scratch′) where
     -- the session's proposal follows what was offered
-    follows : proposal chosen s n point gradient hessian step trial scratch ≡ keeping (offering (s .settings .choice) n (s .radius) point gradient hessian step trial scratch)
+    follows : proposal chosen s n point gradient hessian step trial scratch ≡ keeping (offering (s .settings .choice) n (s .state .radius) point gradient hessian step trial scratch)
     unfolding proposal
     follows =
         let none = passed-none checks (sym judges ∙ e) in
         let sizes : all-sized n point gradient hessian step trial scratch ≡ true = is-true _ (not-not (all-sized n point gradient hessian step trial scratch) (none .0)) in
         let right : sound s ≡ true = is-true _ (not-not (sound s) (none .1 .0)) in
         let kernel = kernel-known s right in
-        unless-passed checks (keeping (stepping (chosen (s .settings)) n (s .radius) point gradient hessian)) (sym judges ∙ e)
-        ∙ ap keeping (sym (offers-kernel (s .settings .choice) n (s .radius) point gradient hessian step trial scratch sizes kernel))
+        unless-passed checks (keeping (stepping (chosen (s .settings)) n (s .state .radius) point gradient hessian)) (sym judges ∙ e)
+        ∙ ap keeping (sym (offers-kernel (s .settings .choice) n (s .state .radius) point gradient hessian step trial scratch sizes kernel))
 
     pub proposes-offer : (after : After) → after ≡ after-offer s found → proposes (proposal chosen s n point gradient hessian step trial scratch) after step′ trial′ scratch′
     unfolding awaiting model-value
-    proposes-offer after is = rw follows (go (offering (s .settings .choice) n (s .radius) point gradient hessian step trial scratch) offers)
+    proposes-offer after is = rw follows (go (offering (s .settings .choice) n (s .state .radius) point gradient hessian step trial scratch) offers)
       where
         go : (a : Answer Offer) → Offers n gradient hessian a found step trial scratch step′ trial′ scratch′ → proposes (keeping a) after step′ trial′ scratch′
         go (refused r) o = record { says = is ∙ ap (after-offer s) (o .says); leaves-step = o .leaves-step; leaves-trial = o .leaves-trial; leaves-scratch = o .leaves-scratch }
@@ -104,17 +106,17 @@ module _ (s : Session) (F : Float) (point trial : List Float) (p : Promise) wher
   abbrev judges-by : After → (point′ : List Float) → Type 0
   judges-by = Judges (judge s F point trial p) s point
 
-  pub judge-unanswered : answered ≡ false → (after : After) → after ≡ refusing s Entry → judges-by after point
+  pub judge-unanswered : answered ≡ false → (after : After) → after ≡ saying s (Refused Entry) → judges-by after point
   unfolding judge
   judge-unanswered a after is = rw a (record { says = is; leaves-point = refl })
 
   -- the code's ratio and next radius
-  module _ (a : answered ≡ true) (x next : Float) (is-ratio : x ≡ rho (s .cost) F (p .model)) (is-next : next ≡ radius-by s x (p .norm)) where
+  module _ (a : answered ≡ true) (x next : Float) (is-ratio : x ≡ rho (s .state .cost) F (p .value)) (is-next : next ≡ radius-by s x (p .norm)) where
     on-answer : judge s F point trial p ≡ verdict s F x next point trial
     unfolding judge
     on-answer = rw (a, is-next, is-ratio)
 
-    pub judge-far : finite next ≡ false → (after : After) → after ≡ refusing s Range → judges-by after point
+    pub judge-far : finite next ≡ false → (after : After) → after ≡ saying s (Refused Range) → judges-by after point
     judge-far b after is = rw (on-answer, b) (record { says = is; leaves-point = refl })
 
     module _ (b : finite next ≡ true) where
@@ -122,19 +124,19 @@ module _ (s : Session) (F : Float) (point trial : List Float) (p : Promise) wher
       settles = on-answer ∙ rw b
 
       pub judge-accepts : lt (s .settings .eta) x ≡ true → length point ≡ length trial → (point′ : List Float) → point′ ≡ replaced trial point
-          → (after : Session) → after ≡ moved s next F AwaitingDerivatives → judges-by (record { session = after; outcome = Accepted x }) point′
+          → (state : State) → state ≡ moved (s .state) next F AwaitingDerivatives → (r : After) → r ≡ saying (turned s state) (Accepted x) → judges-by r point′
       unfolding settled
-      judge-accepts t l point′ c after is = rw (is, settles, t) (record { says = refl; leaves-point = c ∙ copied trial point l })
+      judge-accepts t l point′ c state e r is = rw (is, e, settles, t) (record { says = refl; leaves-point = c ∙ copied trial point l })
 
       pub judge-rejects : lt (s .settings .eta) x ≡ false
-          → (after : Session) → after ≡ moved s next (s .cost) Ready → judges-by (record { session = after; outcome = Rejected x }) point
+          → (state : State) → state ≡ moved (s .state) next (s .state .cost) Ready → (r : After) → r ≡ saying (turned s state) (Rejected x) → judges-by r point
       unfolding settled
-      judge-rejects t after is = rw (is, settles, t) (record { says = refl; leaves-point = refl })
+      judge-rejects t state e r is = rw (is, e, settles, t) (record { says = refl; leaves-point = refl })
 
 module _ (s : Session) (n : ℕ) (F : Float) (point trial : List Float) (v : Verdict) (judges : v ≡ judged (judgement-checks s n point trial)) where
-  pub judges-not : (r : Refusal) → v ≡ Failed r → (after : After) → after ≡ refusing s r → Judges (judgement s n F point trial) s point after point
+  pub judges-not : (r : Refusal) → v ≡ Failed r → (after : After) → after ≡ saying s (Refused r) → Judges (judgement s n F point trial) s point after point
   unfolding judgement
-  judges-not r e after is = rw (unless-failed (judgement-checks s n point trial) (then (judge s F point trial) (promised (s .phase))) r (sym judges ∙ e)) (record { says = is; leaves-point = refl })
+  judges-not r e after is = rw (unless-failed (judgement-checks s n point trial) (then (judge s F point trial) (promised (s .state .phase))) r (sym judges ∙ e)) (record { says = is; leaves-point = refl })
 
   module _ (e : v ≡ Passed) where
     pub judged-lengths : length point ≡ length trial
@@ -142,14 +144,14 @@ module _ (s : Session) (n : ℕ) (F : Float) (point trial : List Float) (v : Ver
         let l = vectors-true n (length point) (length trial) (first-passed (all-hold (size n ∷ sized n point ∷ sized n trial ∷ [])) Size ((Setting if not (sound s)) ∷ []) (sym judges ∙ e)) in
         l .0 ∙ sym (l .1)
 
-    on-promise : judgement s n F point trial ≡ then (judge s F point trial) (promised (s .phase))
+    on-promise : judgement s n F point trial ≡ then (judge s F point trial) (promised (s .state .phase))
     unfolding judgement
     on-promise = unless-passed (judgement-checks s n point trial) _ (sym judges ∙ e)
 
-    pub judges-out-of-turn : promised (s .phase) ≡ refused Turn → (after : After) → after ≡ refusing s Turn → Judges (judgement s n F point trial) s point after point
+    pub judges-out-of-turn : promised (s .state .phase) ≡ refused Turn → (after : After) → after ≡ saying s (Refused Turn) → Judges (judgement s n F point trial) s point after point
     judges-out-of-turn t after is = rw (on-promise, t) (record { says = is; leaves-point = refl })
 
-    pub judges-in-turn : (p : Promise) (r : After) (point′ : List Float) → promised (s .phase) ≡ given p → Judges (judge s F point trial p) s point r point′
+    pub judges-in-turn : (p : Promise) (r : After) (point′ : List Float) → promised (s .state .phase) ≡ given p → Judges (judge s F point trial p) s point r point′
         → Judges (judgement s n F point trial) s point r point′
     judges-in-turn p r point′ t h = rw (on-promise, t) h
 
@@ -162,17 +164,17 @@ renewal-lengths n G H g h e =
     (eqb-true g n (old .0) ∙ sym (eqb-true G n (new .0)), eqb-true h (n * n) (old .1 .0) ∙ sym (eqb-true H (n * n) (new .1 .0)))
 
 module _ (s : Session) (n : ℕ) (new-gradient new-hessian gradient hessian : List Float) (v : Verdict) (judges : v ≡ judged (renewal-checks s n new-gradient new-hessian gradient hessian)) where
-  pub renews-not : (r : Refusal) → v ≡ Failed r → (after : After) → after ≡ refusing s r → Renews (renewal s n new-gradient new-hessian gradient hessian) s gradient hessian after gradient hessian
+  pub renews-not : (r : Refusal) → v ≡ Failed r → (after : After) → after ≡ saying s (Refused r) → Renews (renewal s n new-gradient new-hessian gradient hessian) s gradient hessian after gradient hessian
   unfolding renewal
   renews-not r e after is =
       rw (unless-failed (renewal-checks s n new-gradient new-hessian gradient hessian) (given (renewed-by s new-gradient new-hessian)) r (sym judges ∙ e))
       (record { says = is; leaves-gradient = refl; leaves-hessian = refl })
 
   pub renews : v ≡ Passed → (gradient′ hessian′ : List Float) → gradient′ ≡ replaced new-gradient gradient → hessian′ ≡ replaced new-hessian hessian
-      → (after : Session) → after ≡ in-phase Ready s → Renews (renewal s n new-gradient new-hessian gradient hessian) s gradient hessian (record { session = after; outcome = Taken }) gradient′ hessian′
+      → (state : State) → state ≡ in-phase Ready (s .state) → (r : After) → r ≡ saying (turned s state) Taken → Renews (renewal s n new-gradient new-hessian gradient hessian) s gradient hessian r gradient′ hessian′
   unfolding renewal
-  renews e gradient′ hessian′ g h after is =
+  renews e gradient′ hessian′ g h state t r is =
       let sizes = is-true _ (not-not (all-hold (size n ∷ sized n new-gradient ∷ sized (n * n) new-hessian ∷ sized n gradient ∷ sized (n * n) hessian ∷ [])) (passed-none (renewal-checks s n new-gradient new-hessian gradient hessian) (sym judges ∙ e) .0)) in
       let l = renewal-lengths n (length new-gradient) (length new-hessian) (length gradient) (length hessian) sizes in
       rw (unless-passed (renewal-checks s n new-gradient new-hessian gradient hessian) (given (renewed-by s new-gradient new-hessian)) (sym judges ∙ e))
-      (record { says = ap (λ (x : Session). record { session = x; outcome = Taken }) is; leaves-gradient = g ∙ copied new-gradient gradient (l .0); leaves-hessian = h ∙ copied new-hessian hessian (l .1) })
+      (record { says = is ∙ ap (λ (x : State). saying (turned s x) Taken) t; leaves-gradient = g ∙ copied new-gradient gradient (l .0); leaves-hessian = h ∙ copied new-hessian hessian (l .1) })

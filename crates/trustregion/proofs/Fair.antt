@@ -14,10 +14,10 @@ use Rattle.vectors.specs.Refusal.{refused, given}
 use Rattle.vectors.proofs.Sizes.{both, each-holds}
 use Rattle.kernels.specs.Kernel.{Kernel, positive}
 use Rattle.trustregion.specs.Settings.{ranges, in-range}
-use Rattle.offer.specs.Offer.{steady}
-use Rattle.trustregion.specs.Session.{sound, Promise, awaiting, rho, next-radius, settled}
-use Rattle.offer.specs.Run.{perform, run, Every}
-use Rattle.trustregion.specs.Run.{Station, Call, Trial, proposed, judged, renewed, Reply, Done, Entry, on-proposal, on-judgement, on-renewal, respond, trials}
+use Rattle.offer.specs.State.{steady, Promise}
+use Rattle.trustregion.specs.Session.{sound, awaiting, rho, next-radius, settled}
+use Rattle.offer.specs.Run.{Trial, perform, run, Every}
+use Rattle.trustregion.specs.Run.{Station, Call, proposed, judged, renewed, Reply, Done, Entry, on-proposal, on-judgement, on-renewal, respond, trials}
 use Rattle.trustregion.specs.Demand3.{Fair, Within}
 use Rattle.trustregion.specs.declared.settings.Settings.{Settings}
 use Rattle.trustregion.specs.declared.session.Session.{Session}
@@ -39,7 +39,7 @@ bounds : (s : Session) → T (sound s) → Bounds (s .settings)
 unfolding sound in-range positive
 bounds s w =
     let t = s .settings in
-    let e = each-holds (ranges t) (each-holds (in-range t ∷ steady (s .radius) (s .cost) ∷ []) (is-true _ w) .0) in
+    let e = each-holds (ranges t) (each-holds (in-range t ∷ steady (s .state) ∷ []) (is-true _ w) .0) in
     record {
       eta = true-is _ (e .1 .1 .1 .1 .0);
       max-radius = true-is _ (both (finite (t .«max_radius»)) (lt nought (t .«max_radius»)) (e .1 .1 .0) .1);
@@ -87,10 +87,10 @@ came-good kernel s t d e (judges F p o u) = record {
   tells = record {
     fair = record {
       above-eta = λ a. true-is _ a;
-      falls = λ a q i fall. accepted-falls (s .session .settings .eta) (s .session .cost) F (p .model) (bounds (s .session) u .eta) (true-is _ a) (rw (same-promise (sym o ∙ i)) fall);
+      falls = λ a q i fall. accepted-falls (s .session .settings .eta) (s .session .state .cost) F (p .value) (bounds (s .session) u .eta) (true-is _ a) (rw (same-promise (sym o ∙ i)) fall);
     };
     within = λ q i f h k. let same : p ≡ q = same-promise (sym o ∙ i) in
-        next-within (rho (s .session .cost) F (p .model)) (p .norm) (s .session .radius) (s .session .settings .«max_radius») (rw same f) (bounds (s .session) u .max-radius) h (rw same k);
+        next-within (rho (s .session .state .cost) F (p .value)) (p .norm) (s .session .state .radius) (s .session .settings .«max_radius») (rw same f) (bounds (s .session) u .max-radius) h (rw same k);
   };
 }
 came-good kernel s t d e (renews g H) = record { keeps = refl; tells = tt }

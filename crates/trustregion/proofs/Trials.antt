@@ -7,13 +7,14 @@ use lib.Ieee.{isNan, lt}
 use lib.Ieee.Fits.{and-l, and-r}
 use Rattle.vectors.specs.Refusal.{refused, given}
 use Rattle.kernels.specs.Kernel.{Kernel}
-use Rattle.trustregion.specs.Session.{awaits-cost, rho, settled}
-use Rattle.offer.specs.Run.{perform, run, was-refused, Thinned, none, keep, drop}
+use Rattle.trustregion.specs.Session.{rho, settled}
+use Rattle.offer.specs.State.{awaits-cost}
+use Rattle.offer.specs.Run.{Trial, perform, run, was-refused, Thinned, none, keep, drop}
 use Rattle.offer.proofs.Runs.{perform-elim}
-use Rattle.trustregion.specs.Run.{Station, Call, Trial, proposed, judged, renewed, Reply, Done, Entry, on-proposal, on-judgement, on-renewal, respond, opens-trial, took-cost, took-nan, nan-comes, strike-from, add-trial, trials, seen}
+use Rattle.trustregion.specs.Run.{Station, Call, proposed, judged, renewed, Reply, Done, Entry, on-proposal, on-judgement, on-renewal, respond, opens-trial, took-cost, took-nan, nan-comes, strike-from, add-trial, trials, seen}
 use Rattle.trustregion.specs.declared.settings.Settings.{Settings}
-use Rattle.trustregion.specs.declared.session.Phase.{Phase}
-use Rattle.trustregion.specs.declared.session.Phase.the-variants.{Ready, AwaitingDerivatives}
+use Rattle.offer.specs.declared.state.Phase.{Phase}
+use Rattle.offer.specs.declared.state.Phase.the-variants.{Ready, AwaitingDerivatives}
 use Rattle.trustregion.proofs.Answers.{promise-held, Came, refuses, offers, judges, renews, alone}
 use Rattle.trustregion.proofs.Alike.{Alike, same-phase, refused-keeps}
 
@@ -25,19 +26,19 @@ record Turns (before : Phase) (r : Reply) (after : Phase) : Type 0 where
   -- after an answer that was taken no cost is awaited
   closes : T (not (was-refused r)) → T (not (opens-trial r)) → T (awaits-cost after) → ⊥
 
-came-turns : (kernel : Settings → Kernel) (s t : Station) (d e : Done) → Came kernel s t d e → Turns (s .session .phase) (d .reply) (d .after .session .phase)
+came-turns : (kernel : Settings → Kernel) (s t : Station) (d e : Done) → Came kernel s t d e → Turns (s .session .state .phase) (d .reply) (d .after .session .state .phase)
 unfolding on-proposal on-judgement on-renewal settled
 came-turns kernel s t d e (refuses r w v l m) = record { awaited = λ w. absurd w; closes = λ w. absurd w }
 came-turns kernel s t d e (offers n m z u i) = record { awaited = λ w. absurd w; closes = λ w v. absurd v }
-came-turns kernel s t d e (judges F p i u) = record { awaited = λ w. promise-held (s .session .phase) p i; closes = λ w v. go (lt (s .session .settings .eta) (rho (s .session .cost) F (p .model))) }
+came-turns kernel s t d e (judges F p i u) = record { awaited = λ w. promise-held (s .session .state .phase) p i; closes = λ w v. go (lt (s .session .settings .eta) (rho (s .session .state .cost) F (p .value))) }
   where
     go : (b : Bool) → T (awaits-cost (cond b AwaitingDerivatives Ready)) → ⊥
     go true w = w
     go false w = w
 came-turns kernel s t d e (renews g H) = record { awaited = λ w. absurd w; closes = λ w v u. u }
 
-turns : (kernel : Settings → Kernel) (c : Call) (s : Station) → Turns (s .session .phase) (perform (respond kernel) c s .reply) (perform (respond kernel) c s .after .session .phase)
-turns kernel = perform-elim (respond kernel) (λ (s : Station) (d : Done). Turns (s .session .phase) (d .reply) (d .after .session .phase)) (λ v s d h. h) (λ q s. came-turns kernel s s _ _ (alone kernel q s))
+turns : (kernel : Settings → Kernel) (c : Call) (s : Station) → Turns (s .session .state .phase) (perform (respond kernel) c s .reply) (perform (respond kernel) c s .after .session .state .phase)
+turns kernel = perform-elim (respond kernel) (λ (s : Station) (d : Done). Turns (s .session .state .phase) (d .reply) (d .after .session .state .phase)) (λ v s d h. h) (λ q s. came-turns kernel s s _ _ (alone kernel q s))
 
 -- ---- what a reply adds to the trials
 
@@ -84,7 +85,7 @@ nan-no-opening (given renewed) w = tt
 module _ (kernel : Settings → Kernel) where
   -- outside a struck trial, an awaited cost is none of NaN; inside it is
   abbrev pub Clear : (inside : Bool) → Station → List Call → Type 0
-  Clear false s cs = T (awaits-cost (s .session .phase)) → T (not (nan-comes (run (respond kernel) s cs)))
+  Clear false s cs = T (awaits-cost (s .session .state .phase)) → T (not (nan-comes (run (respond kernel) s cs)))
   Clear true s cs = T (nan-comes (run (respond kernel) s cs))
 
   module _ (c : Call) (s : Station) (cs : List Call) where
@@ -95,8 +96,8 @@ module _ (kernel : Settings → Kernel) where
     kept-clear : Clear false s (c ∷ cs) → T (not (opens-trial (perform (respond kernel) c s .reply) && nan-comes (run (respond kernel) next cs))) → T (not (took-nan (perform (respond kernel) c s .reply))) × Clear false next cs
     kept-clear h k = go (perform (respond kernel) c s .reply) (λ w. refused-keeps kernel c s w) (turns kernel c s) h k
       where
-        go : (r : Reply) → (T (was-refused r) → Alike next s) → Turns (s .session .phase) r (next .session .phase)
-            → (T (awaits-cost (s .session .phase)) → T (not (cond (was-refused r) (nan-comes (run (respond kernel) next cs)) (took-nan r))))
+        go : (r : Reply) → (T (was-refused r) → Alike next s) → Turns (s .session .state .phase) r (next .session .state .phase)
+            → (T (awaits-cost (s .session .state .phase)) → T (not (cond (was-refused r) (nan-comes (run (respond kernel) next cs)) (took-nan r))))
             → T (not (opens-trial r && nan-comes (run (respond kernel) next cs)))
             → T (not (took-nan r)) × Clear false next cs
         go (refused x) a b h k = (tt, λ w. h (subst (λ (y : Phase). T (awaits-cost y)) (same-phase (a tt)) w))

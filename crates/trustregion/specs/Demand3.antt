@@ -8,15 +8,15 @@ use Rattle.float.specs.Numbers.{_⊖_}
 use Rattle.float.specs.Constants.{nought}
 use Rattle.vectors.specs.Refusal.{given}
 use Rattle.kernels.specs.Kernel.{Kernel}
-use Rattle.trustregion.specs.Session.{Promise, awaits-cost}
-use Rattle.offer.specs.Run.{run, final, calls, lent-same, Thinned, Every}
-use Rattle.trustregion.specs.Run.{Station, Call, Trial, Entry, respond, strike, trials, seen}
+use Rattle.offer.specs.State.{awaits-cost, Promise}
+use Rattle.offer.specs.Run.{Trial, run, final, calls, lent-same, Thinned, Every}
+use Rattle.trustregion.specs.Run.{Station, Call, Entry, respond, strike, trials, seen}
 use Rattle.trustregion.specs.declared.settings.Settings.{Settings}
 
 -- "Each accepted trial has a ratio above eta; if its predicted fall is above zero, its cost is strictly below the one before." "Predicted fall is f − m."
 pub record Fair (eta : Float) (t : Trial) : Type 0 where
   pub above-eta : t .accepted ≡ true → T (lt eta (t .ratio))
-  pub falls : t .accepted ≡ true → (p : Promise) → t .promise ≡ given p → T (lt nought (t .before ⊖ p .model)) → T (lt (t .cost) (t .before))
+  pub falls : t .accepted ≡ true → (p : Promise) → t .promise ≡ given p → T (lt nought (t .before ⊖ p .value)) → T (lt (t .cost) (t .before))
 
 -- "If radius and ‖p‖ are both at most max_radius, so is the next radius." Every f64 fits.
 abbrev pub Within : (max-radius : Float) → Trial → Type 0
@@ -32,10 +32,10 @@ module _ (kernel : Settings → Kernel) where
     -- and its trials are those of the whole run that were not answered with NaN
     pub kept-trials : trials kept ≡ seen (trials (run (respond kernel) start whole))
     -- "and ends with the same phase, radius, point, cost, gradient and Hessian"
-    pub phase : final (respond kernel) start (calls kept) .session .phase ≡ final (respond kernel) start whole .session .phase
-    pub radius : final (respond kernel) start (calls kept) .session .radius ≡ final (respond kernel) start whole .session .radius
+    pub phase : final (respond kernel) start (calls kept) .session .state .phase ≡ final (respond kernel) start whole .session .state .phase
+    pub radius : final (respond kernel) start (calls kept) .session .state .radius ≡ final (respond kernel) start whole .session .state .radius
     pub point : final (respond kernel) start (calls kept) .lent .point ≡ final (respond kernel) start whole .lent .point
-    pub cost : final (respond kernel) start (calls kept) .session .cost ≡ final (respond kernel) start whole .session .cost
+    pub cost : final (respond kernel) start (calls kept) .session .state .cost ≡ final (respond kernel) start whole .session .state .cost
     pub gradient : final (respond kernel) start (calls kept) .lent .gradient ≡ final (respond kernel) start whole .lent .gradient
     pub hessian : final (respond kernel) start (calls kept) .lent .hessian ≡ final (respond kernel) start whole .lent .hessian
 
@@ -43,7 +43,7 @@ module _ (kernel : Settings → Kernel) where
     -- "In a `TrustRegion` session that is lent the same vectors, besides the answers, at every call not refused by 1, .. strike out every trial answered with NaN, with the refused calls inside it. .. Other refused calls may be struck too."
     -- The start is any station that is not inside a trial.
     pub struck :
-        (start : Station) → T (not (awaits-cost (start .session .phase)))
+        (start : Station) → T (not (awaits-cost (start .session .state .phase)))
         → (whole : List Call) → T (lent-same (run (respond kernel) start whole))
         → (kept : List Entry) → Thinned (strike (run (respond kernel) start whole)) kept
         → Same-run start whole kept

@@ -6,13 +6,13 @@ use lib.Ieee.{Float, isNan}
 use Rattle.vectors.specs.Refusal.{Answer, refused, given, left-in}
 use Rattle.kernels.specs.Kernel.{Kernel}
 use Rattle.offer.specs.Run as Run
-use Rattle.offer.specs.Run.{Vectors, trial-at, answered, proposing, was-refused}
-use Rattle.trustregion.specs.Session.{Promise, promised, Proposal, proposal, Judgement, judgement, Renewal, renewal}
-use Rattle.trustregion.specs.Calls.{verdict-of}
+use Rattle.offer.specs.Run.{Vectors, Trial, trial-at, answered, proposing, was-refused}
+use Rattle.trustregion.specs.Session.{Proposal, proposal, Judgement, judgement, Renewal, renewal}
+use Rattle.offer.specs.State.{verdict-of}
 use Rattle.trustregion.specs.declared.settings.Settings.{Settings}
 use Rattle.trustregion.specs.declared.session.Session.{Session}
-use Rattle.trustregion.specs.declared.session.Outcome.{Outcome}
-use Rattle.trustregion.specs.declared.session.Outcome.the-variants.{Refused, Proposed, Taken}
+use Rattle.offer.specs.declared.state.Outcome.{Outcome}
+use Rattle.offer.specs.declared.state.Outcome.the-variants.{Refused, Proposed, Taken}
 
 -- ---- what is asked, and what is told
 
@@ -21,9 +21,6 @@ pub data Request : Type 0 where
   propose : ℕ → Request
   cost : ℕ → Float → Request
   derivatives : ℕ → (gradient hessian : List Float) → Request
-
-abbrev pub Trial : Type 0
-Trial = Run.Trial Promise
 
 pub data Told : Type 0 where
   proposed : (step trial : List Float) (passes : ℕ) → Told
@@ -64,7 +61,7 @@ unfoldable pub on-judgement : Station → Float → Answer Judgement → Done
 on-judgement s F = answered tell (λ (j : Judgement). j .session) leave s
   where
     tell : Judgement → Told
-    tell j = judged (trial-at (λ x. x .cost) (λ x. x .radius) (λ x. promised (x .phase)) s F (j .ratio) (j .accepted) (j .session))
+    tell j = judged (trial-at (λ x. x .state) s F (j .ratio) (j .accepted) (j .session))
 
     leave : Answer Judgement → Vectors → Vectors
     leave a v = record { point = left-in (λ (j : Judgement). j .point) a (v .point); gradient = v .gradient; hessian = v .hessian; step = v .step; trial = v .trial; scratch = v .scratch }

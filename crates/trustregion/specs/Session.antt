@@ -1,77 +1,41 @@
 -- The `TrustRegion` session of document 01, on values: what each of its calls answers, for every input, refused ones too. Definitions only.
 -- A call is a function of the session, of n, and of the lent vectors as they are at entry. Its answer is a refusal, or all that the call changes.
-use mathlib.Core.Bool.{Bool, true, false, not, _&&_, cond}
+use mathlib.Core.Bool.{Bool, not, _&&_, cond}
 use mathlib.Core.List.{List, [], _∷_}
 use Prim.Native.Nat.{ℕ, _*_}
 use lib.Ieee.{Float, lt, le}
 use Rattle.float.specs.Numbers.{_⊕_, _⊖_, _⊗_, finite, magnitude, smaller}
 use Rattle.float.specs.Constants.{two, half, quarter, three-quarters, ten-epsilons}
 use Rattle.vectors.specs.Vector.{dot, norm, weighted, all-finite}
-use Rattle.vectors.specs.Refusal.{Answer, refused, given, Check, _if_, unless, then, all-hold, size, sized}
+use Rattle.vectors.specs.Refusal.{Answer, given, Check, _if_, unless, then, all-hold, size, sized}
 use Rattle.kernels.specs.Kernel.{Kernel}
 use Rattle.kernels.specs.Ratio.{reduction-ratio}
 use Rattle.vectors.specs.declared.refusal.Refusal.the-variants.{Size, Setting, Turn, Entry, Range}
 use Rattle.trustregion.specs.Settings.{in-range}
-use Rattle.offer.specs.Offer.{all-sized, steady, cost-taken, Offer, offer, stepping}
+use Rattle.offer.specs.Offer.{all-sized, cost-taken, start-checks, Offer, offer, stepping}
+use Rattle.offer.specs.State.{begin, moved, in-phase, steady, is-ready, awaits-derivatives, Promise, promised}
 use Rattle.trustregion.specs.declared.settings.Settings.{Settings}
 use Rattle.trustregion.specs.declared.session.Session.{Session}
-use Rattle.trustregion.specs.declared.session.Phase.{Phase}
-use Rattle.trustregion.specs.declared.session.Phase.the-variants.{Ready, AwaitingCost, AwaitingDerivatives}
+use Rattle.offer.specs.declared.state.State.{State}
+use Rattle.offer.specs.declared.state.Phase.the-variants.{Ready, AwaitingCost, AwaitingDerivatives}
 
 -- not "a setting out of range or not finite, or a session with negative or not finite radius, or cost not finite"; "a session checks all settings of its kind, whatever its kernel"
 unfoldable pub sound : Session → Bool
 unfolding in-range finite
-sound s = all-hold (in-range (s .settings) ∷ steady (s .radius) (s .cost) ∷ [])
+sound s = all-hold (in-range (s .settings) ∷ steady (s .state) ∷ [])
 
--- ---- phases: "ready; awaiting a cost, with the model value and step norm it was promised on; awaiting derivatives"
-
-abbrev pub is-ready : Phase → Bool
-is-ready Ready = true
-is-ready (AwaitingCost m norm) = false
-is-ready AwaitingDerivatives = false
-
-abbrev pub awaits-cost : Phase → Bool
-awaits-cost Ready = false
-awaits-cost (AwaitingCost m norm) = true
-awaits-cost AwaitingDerivatives = false
-
-abbrev pub awaits-derivatives : Phase → Bool
-awaits-derivatives Ready = false
-awaits-derivatives (AwaitingCost m norm) = false
-awaits-derivatives AwaitingDerivatives = true
-
--- a session with another radius and cost, in another phase
-abbrev pub moved : Session → (radius cost : Float) → Phase → Session
-moved s radius cost phase = record { settings = s .settings; radius = radius; cost = cost; phase = phase }
-
--- only in another phase
-abbrev pub in-phase : Phase → Session → Session
-in-phase phase s = moved s (s .radius) (s .cost) phase
-
-pub record Promise : Type 0 where
-  pub model : Float
-  pub norm : Float
-
--- what a session that awaits a cost was promised on; any other is out of turn
-abbrev pub promised : Phase → Answer Promise
-promised Ready = refused Turn
-promised (AwaitingCost m norm) = given (record { model = m; norm = norm })
-promised AwaitingDerivatives = refused Turn
+-- the session in another state
+abbrev pub turned : Session → State → Session
+turned s state = record { settings = s .settings; state = state }
 
 -- ---- start: "takes settings and cost only"
 
-abbrev pub start-checks : Settings → Float → List Check
-start-checks settings f =
-    (Setting if not (in-range settings))
-    ∷ (Entry if not (finite f))
-    ∷ []
-
-abbrev pub begin : Settings → (radius f : Float) → Session
-begin settings radius f = record { settings = settings; radius = radius; cost = f; phase = Ready }
+abbrev pub started : Settings → (radius f : Float) → Session
+started settings radius f = record { settings = settings; state = begin radius f }
 
 unfoldable pub start : Settings → Float → Answer Session
 unfolding in-range finite
-start settings f = unless (start-checks settings f) (given (begin settings (settings .radius) f))
+start settings f = unless (start-checks (in-range settings) f) (given (started settings (settings .radius) f))
 
 -- ---- propose
 
@@ -88,7 +52,7 @@ model-value n f gradient hessian step = f ⊕ dot step gradient ⊕ half ⊗ wei
 unfoldable pub awaiting : Session → ℕ → (gradient hessian : List Float) → Offer → Proposal
 unfolding model-value norm
 awaiting s n gradient hessian o = record {
-  session = in-phase (AwaitingCost (model-value n (s .cost) gradient hessian (o .step)) (norm (o .step))) s;
+  session = turned s (in-phase (AwaitingCost (model-value n (s .state .cost) gradient hessian (o .step)) (norm (o .step))) (s .state));
   offer = o;
 }
 
@@ -96,7 +60,7 @@ abbrev pub proposal-checks : Session → ℕ → (point gradient hessian step tr
 proposal-checks s n point gradient hessian step trial scratch =
     (Size if not (all-sized n point gradient hessian step trial scratch))
     ∷ (Setting if not (sound s))
-    ∷ (Turn if not (is-ready (s .phase)))
+    ∷ (Turn if not (is-ready (s .state .phase)))
     ∷ (Entry if not (all-finite point && all-finite gradient && all-finite hessian))
     ∷ []
 
@@ -105,7 +69,7 @@ unfoldable pub proposal : (Settings → Kernel) → Session → ℕ → (point g
 unfolding size sound all-finite offer awaiting
 proposal kernel s n point gradient hessian step trial scratch =
     unless (proposal-checks s n point gradient hessian step trial scratch)
-    (then (λ (o : Offer). given (awaiting s n gradient hessian o)) (stepping (kernel (s .settings)) n (s .radius) point gradient hessian))
+    (then (λ (o : Offer). given (awaiting s n gradient hessian o)) (stepping (kernel (s .settings)) n (s .state .radius) point gradient hessian))
 
 -- ---- the answer with a cost F
 
@@ -132,7 +96,7 @@ unfoldable pub settled : Session → (F ratio radius : Float) → (point trial :
 settled s F ratio radius point trial =
     let accepts = lt (s .settings .eta) ratio in
     record {
-      session = moved s radius (cond accepts F (s .cost)) (cond accepts AwaitingDerivatives Ready);
+      session = turned s (moved (s .state) radius (cond accepts F (s .state .cost)) (cond accepts AwaitingDerivatives Ready));
       point = cond accepts trial point;
       ratio = ratio;
       accepted = accepts;
@@ -151,13 +115,13 @@ abbrev pub verdict : Session → (F ratio radius : Float) → (point trial : Lis
 verdict s F ratio radius point trial = unless (verdict-checks radius) (given (settled s F ratio radius point trial))
 
 abbrev pub radius-by : Session → (ratio norm : Float) → Float
-radius-by s ratio norm = next-radius ratio norm (s .radius) (s .settings .«max_radius»)
+radius-by s ratio norm = next-radius ratio norm (s .state .radius) (s .settings .«max_radius»)
 
 unfoldable pub judge : Session → (F : Float) → (point trial : List Float) → Promise → Answer Judgement
 unfolding next-radius settled all-finite finite cost-taken
 judge s F point trial p =
     unless (answer-checks F trial)
-    (verdict s F (rho (s .cost) F (p .model)) (radius-by s (rho (s .cost) F (p .model)) (p .norm)) point trial)
+    (verdict s F (rho (s .state .cost) F (p .value)) (radius-by s (rho (s .state .cost) F (p .value)) (p .norm)) point trial)
 
 abbrev pub judgement-checks : Session → ℕ → (point trial : List Float) → List Check
 judgement-checks s n point trial =
@@ -168,7 +132,7 @@ judgement-checks s n point trial =
 -- refusal 3 is `promised`'s
 unfoldable pub judgement : Session → ℕ → Float → (point trial : List Float) → Answer Judgement
 unfolding size sound judge
-judgement s n F point trial = unless (judgement-checks s n point trial) (then (judge s F point trial) (promised (s .phase)))
+judgement s n F point trial = unless (judgement-checks s n point trial) (then (judge s F point trial) (promised (s .state .phase)))
 
 -- ---- the answer with new derivatives: "copied into gradient and Hessian and makes the session ready"
 
@@ -181,12 +145,12 @@ abbrev pub renewal-checks : Session → ℕ → (new-gradient new-hessian gradie
 renewal-checks s n new-gradient new-hessian gradient hessian =
     (Size if not (all-hold (size n ∷ sized n new-gradient ∷ sized (n * n) new-hessian ∷ sized n gradient ∷ sized (n * n) hessian ∷ [])))
     ∷ (Setting if not (sound s))
-    ∷ (Turn if not (awaits-derivatives (s .phase)))
+    ∷ (Turn if not (awaits-derivatives (s .state .phase)))
     ∷ (Entry if not (all-finite new-gradient && all-finite new-hessian))
     ∷ []
 
 abbrev pub renewed-by : Session → (new-gradient new-hessian : List Float) → Renewal
-renewed-by s new-gradient new-hessian = record { session = in-phase Ready s; gradient = new-gradient; hessian = new-hessian }
+renewed-by s new-gradient new-hessian = record { session = turned s (in-phase Ready (s .state)); gradient = new-gradient; hessian = new-hessian }
 
 unfoldable pub renewal : Session → ℕ → (new-gradient new-hessian gradient hessian : List Float) → Answer Renewal
 unfolding size sound all-finite

@@ -1,9 +1,9 @@
 // The same calls on a session that is lent, to be changed in place.
-use crate::session::Outcome;
 use crate::session::Session;
 use crate::trustregion_method::judged;
 use crate::trustregion_method::proposed;
 use crate::trustregion_method::renewed;
+use offer::state::Outcome;
 ghost use Rattle.trustregion.specs.Settings.{chosen};
 ghost use Rattle.trustregion.specs.Session.{proposal, judgement, renewal};
 ghost use Rattle.trustregion.specs.Calls.{Proposes, Judges, Renews};

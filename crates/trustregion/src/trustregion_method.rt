@@ -2,8 +2,6 @@
 // order of argmin's steps. Nothing is written before the last refusal is decided.
 use crate::session;
 use crate::session::After;
-use crate::session::Outcome;
-use crate::session::Phase;
 use crate::session::Session;
 use crate::session::Start;
 use crate::settings;
@@ -11,6 +9,9 @@ use crate::settings::Settings;
 use offer::Offered;
 use offer::lent;
 use offer::range;
+use offer::state;
+use offer::state::Outcome;
+use offer::state::Phase;
 use vectors::refusal;
 use vectors::refusal::Refusal;
 use vectors::refusal::Verdict;
@@ -44,7 +45,10 @@ pub fn start(settings: Settings, cost: f64) -> Start
     let checks = range::verdict(true, ranged, true, finite);
     match checks {
         Verdict::Failed(r) => Start::Refused(r),
-        Verdict::Passed => Start::Started(session::begin(settings, settings.radius, cost)),
+        Verdict::Passed => Start::Started(Session {
+            settings: settings,
+            state: state::begin(settings.radius, cost),
+        }),
     }
 }
 
@@ -69,11 +73,12 @@ fn awaiting(s: Session, offered: Offered) -> After
             curvature,
             norm,
         } => {
-            let model = model_value(s.cost, slope, curvature);
-            After {
-                session: session::in_phase(s, Phase::AwaitingCost(model, norm)),
-                outcome: Outcome::Proposed(passes),
-            }
+            let model = model_value(s.state.cost, slope, curvature);
+            session::answering(
+                s,
+                state::in_phase(s.state, Phase::AwaitingCost(model, norm)),
+                Outcome::Proposed(passes),
+            )
         }
     }
 }
@@ -93,9 +98,10 @@ pub fn proposed(
         s (now (step .entry)) (now (trial .entry)) (now (scratch .entry)) r (now (step .exit)) (now (trial .exit)) (now (scratch .exit)) ⌝ }
 {
     let choice = s.settings.choice;
-    let phase = s.phase;
+    let state = s.state;
+    let phase = state.phase;
     let sound = session::sound(s);
-    let ready = session::is_ready(phase);
+    let ready = state::is_ready(phase);
     let checks = range::proposal(
         n,
         sound,
@@ -113,7 +119,7 @@ pub fn proposed(
             let offered = offer::make_unchecked(
                 choice,
                 n,
-                s.radius,
+                s.state.radius,
                 point,
                 gradient,
                 hessian,
@@ -164,33 +170,36 @@ fn next_radius(ratio: f64, norm: f64, radius: f64, max_radius: f64) -> f64
 // The verdict on a trial that was promised on a model value and a step norm.
 fn judge(s: Session, model: f64, norm: f64, answer: f64, point: &mut [f64], trial: &[f64]) -> After
     requires { ⌜ length (now point) ≡ length (now trial) ⌝ }
-    ensures { λ r. ⌜ Judges (Definition.judge s answer (now (point .entry)) (now (trial .entry)) (record { model = model; norm = norm })) s (now (point .entry)) r (now (point .exit)) ⌝ }
+    ensures { λ r. ⌜ Judges (Definition.judge s answer (now (point .entry)) (now (trial .entry)) (record { value = model; norm = norm })) s (now (point .entry)) r (now (point .exit)) ⌝ }
 {
     if !answered(answer, trial) {
         return session::refusing(s, Refusal::Entry);
     }
-    let ratio = kernels::reduction_ratio(s.cost, answer, s.cost, model);
-    let next = next_radius(ratio, norm, s.radius, s.settings.max_radius);
+    let ratio = kernels::reduction_ratio(s.state.cost, answer, s.state.cost, model);
+    let next = next_radius(ratio, norm, s.state.radius, s.settings.max_radius);
     if !float::finite(next) {
         return session::refusing(s, Refusal::Range);
     }
     if s.settings.eta < ratio {
         lent::copy(trial, point);
-        return After {
-            session: session::moved(s, next, answer, Phase::AwaitingDerivatives),
-            outcome: Outcome::Accepted(ratio),
-        };
+        return session::answering(
+            s,
+            state::moved(s.state, next, answer, Phase::AwaitingDerivatives),
+            Outcome::Accepted(ratio),
+        );
     }
-    After {
-        session: session::moved(s, next, s.cost, Phase::Ready),
-        outcome: Outcome::Rejected(ratio),
-    }
+    session::answering(
+        s,
+        state::moved(s.state, next, s.state.cost, Phase::Ready),
+        Outcome::Rejected(ratio),
+    )
 }
 
 pub fn judged(s: Session, n: usize, cost: f64, point: &mut [f64], trial: &[f64]) -> After
     ensures { λ r. ⌜ Judges (judgement s n cost (now (point .entry)) (now (trial .entry))) s (now (point .entry)) r (now (point .exit)) ⌝ }
 {
-    let phase = s.phase;
+    let state = s.state;
+    let phase = state.phase;
     let checks = judgement_checked(s, n, point, trial);
     match checks {
         Verdict::Failed(r) => session::refusing(s, r),
@@ -236,7 +245,8 @@ fn renewal_checked(
 ) -> Verdict
     ensures { λ r. ⌜ r ≡ judged (renewal-checks s n (now («new_gradient» .entry)) (now («new_hessian» .entry)) (now (gradient .entry)) (now (hessian .entry))) ⌝ }
 {
-    let phase = s.phase;
+    let state = s.state;
+    let phase = state.phase;
     let sized = renewal_sized(
         n,
         new_gradient.len(),
@@ -245,7 +255,7 @@ fn renewal_checked(
         hessian.len(),
     );
     let sound = session::sound(s);
-    let in_turn = session::awaits_derivatives(phase);
+    let in_turn = state::awaits_derivatives(phase);
     let finite = vector::both_finite(new_gradient, new_hessian);
     range::verdict(sized, sound, in_turn, finite)
 }
@@ -267,10 +277,7 @@ pub fn renewed(
         Verdict::Passed => {
             lent::copy(new_gradient, gradient);
             lent::copy(new_hessian, hessian);
-            After {
-                session: session::in_phase(s, Phase::Ready),
-                outcome: Outcome::Taken,
-            }
+            session::answering(s, state::in_phase(s.state, Phase::Ready), Outcome::Taken)
         }
     }
 }

@@ -32,10 +32,7 @@ pub table : List Line
 table =
     equation settings.Settings.new.ended (λ M. settings.Settings.new.spec) (λ w κs a g r. refl) (λ κs a s s₂. refl)
     ∷ equation settings.«in_range».ended (λ M. settings.«in_range».spec) (λ w κs a g r. refl) (λ κs a s s₂. refl)
-    ∷ equation session.begin.ended (λ M. session.begin.spec) (λ w κs a g r. refl) (λ κs a s s₂. refl)
-    ∷ equation session.moved.ended (λ M. session.moved.spec) (λ w κs a g r. refl) (λ κs a s s₂. refl)
     ∷ equation session.sound.ended (λ M. session.sound.spec) (λ w κs a g r. refl) (λ κs a s s₂. refl)
-    ∷ equation session.«is_ready».ended (λ M. session.«is_ready».spec) (λ w κs a g r. refl) (λ κs a s s₂. refl)
     ∷ equation method.start.ended (λ M. method.start.spec) (λ w κs a g r. refl) (λ κs a s s₂. refl)
     ∷ unique method.proposed.ended (λ M. method.proposed.spec) (λ w κs a g r. refl) (λ κs a r r₂ s s₂ p q. let e = proposes p q in (e .0, λ i. tt & tt & tt & tt & tt & e .1 i & e .2 i & e .3 i & tt))
     ∷ unique method.judged.ended (λ M. method.judged.spec) (λ w κs a g r. refl) (λ κs a r r₂ s s₂ p q. let e = judges p q in (e .0, λ i. tt & tt & tt & tt & e .1 i & tt & tt & e .2 i & e .3 i & e .4 i & tt))

@@ -7,7 +7,7 @@ returns : tie.Need-returns
 returns c = rw (c .before .before .said .given .1, c .number .ensures)
 
 returns-2 : tie.Need-returns-2
-returns-2 c = rw (c .before .before .before .before .before .said2 .given .1)
+returns-2 c = let turn = c .before .before in rw (turn .before .before .before .before .said2 .given .1, turn .turn-of .ensures)
 
 pub keep-spec : {M : Type 1} → statement M
-keep-spec = tie.close (tie.spec (λ c. search needs) (λ c κs. search needs) (λ c. search needs) returns returns-2)
+keep-spec = tie.close (tie.spec (λ c. search needs) (λ c κs. search needs) (λ c. search needs) (λ c κs. search needs) returns returns-2)

@@ -12,10 +12,6 @@ small c = size-small _ (passed (c .before .size .ensures) (c .if1 .left))
 
 pub sized-spec : {M : Type 1} → statement M
 sized-spec =
-    tie.close
-    (tie.spec
-    (λ c κs. search needs)
-    (λ c. rw (failed (c .before .size .ensures) (c .if1 .taken)))
-    (λ c. omega (arith, small c)) (λ c. omega (arith, small c)) (λ c. omega (arith, small c)) (λ c. omega (arith, small c)) (λ c. omega (arith, small c))
-    (λ c. search needs) (λ c κs. search needs)
+    tie.close (tie.spec (λ c κs. search needs) (λ c. rw (failed (c .before .size .ensures) (c .if1 .taken)))
+    (λ c. omega (arith, small c)) (λ c. omega (arith, small c)) (λ c. omega (arith, small c)) (λ c. omega (arith, small c)) (λ c. omega (arith, small c)) (λ c. search needs) (λ c κs. search needs)
     (λ c. let right = c .before .before in rw (passed (right .before .size .ensures) (right .if1 .left)) (c .all-hold .ensures)))

@@ -7,6 +7,6 @@ pub awaiting-spec : {M : Type 1} → statement M
 awaiting-spec =
     tie.close
     (tie.spec
-    (λ c. search needs) (λ c κs. search needs) (λ c. search needs) (λ c κs. search needs) (λ c κs. search needs)
+    (λ c. search needs) (λ c κs. search needs) (λ c. search needs) (λ c κs. search needs) (λ c κs. search needs) (λ c κs. search needs)
     (λ c. rw (c .before .before .offered .given .1) (c .refusing .ensures))
-    (λ c. let step = c .before .before .before in rw (step .offered2 .given .1, c .in-phase .ensures, c .before .predicted-fall .ensures)))
+    (λ c. let kept = c .before in rw (kept .before .before .before .offered2 .given .1, c .answering .ensures, kept .in-phase .ensures, kept .before .predicted-fall .ensures)))

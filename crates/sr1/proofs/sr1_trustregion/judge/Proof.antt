@@ -1,5 +1,6 @@
 -- `sr1::sr1_trustregion::judge` meets its contract. Assumes nothing.
 use denote.Ref.{now}
+use native.Mathlib.Omega.{arith}
 use borrow.Author.Needs.{needs}
 use borrow.Author.Tests.{not-true, not-false}
 use Rattle.vectors.proofs.Sizes.{failed, passed}
@@ -37,23 +38,23 @@ returns-3 c =
 
 returns-4 : tie.Need-returns-4
 returns-4 c =
-    let tested = c .before .before .before .before .before .before .before .before .before in
+    let tested = c .before .before .before .before .before .before .before .before .before .before in
     let renewed = tested .before .before .before .before .before .before .before in
     let near = renewed .before .before .before .before in
     let radius = near .before .before in
     let taken = radius .before .before in
     judge-accepts _ _ _ _ _ _ _ _ _ _ _ (passed (taken .before .answered .ensures) (taken .if1 .left)) _ _ (radius .before .fall-ratio .ensures) (radius .next-radius .ensures)
     (passed (near .before .finite .ensures) (near .if2 .left)) _ _ _ (renewed .renew .ensures .0) (renewed .renew .ensures .1) (not-false _ (tested .before .before .if3 .left))
-    (tested .if4 .taken) (taken .before .before .before .before .before .before .before .before .before .before .before .pre) _ _ (c .before .before .before .before .before .before .before .copy .ensures) (c .before .before .before .copy2 .ensures) _ (c .moved .ensures)
+    (tested .if4 .taken) (taken .before .before .before .before .before .before .before .before .before .before .before .pre) _ _ (c .before .before .before .before .before .before .before .before .copy .ensures) (c .before .before .before .before .copy2 .ensures) _ (c .before .moved .ensures) _ (c .answering .ensures)
 
 returns-5 : tie.Need-returns-5
 returns-5 c =
-    let renewed = c .before .before .before .before .before .before .before .before in
+    let renewed = c .before .before .before .before .before .before .before .before .before in
     let near = renewed .before .before .before .before in
     let radius = near .before .before in
     let taken = radius .before .before in
     judge-rejects _ _ _ _ _ _ _ _ _ _ _ (passed (taken .before .answered .ensures) (taken .if1 .left)) _ _ (radius .before .fall-ratio .ensures) (radius .next-radius .ensures)
-    (passed (near .before .finite .ensures) (near .if2 .left)) _ _ _ (renewed .renew .ensures .0) (renewed .renew .ensures .1) (not-false _ (c .before .before .before .if3 .left)) (c .before .if4 .left) _ (c .moved2 .ensures)
+    (passed (near .before .finite .ensures) (near .if2 .left)) _ _ _ (renewed .renew .ensures .0) (renewed .renew .ensures .1) (not-false _ (c .before .before .before .before .if3 .left)) (c .before .before .if4 .left) _ (c .before .moved2 .ensures) _ (c .answering2 .ensures)
 
 pub judge-spec : {M : Type 1} → statement M
 judge-spec =
@@ -66,7 +67,9 @@ judge-spec =
     renew-requires
     (λ c κs. search needs) (λ c. search needs) (λ c. search needs) (λ c. search needs)
     returns-3
-    (λ c κs. search needs) (λ c κs. search needs) (λ c κs. search needs) (λ c. search needs) (λ c. search needs) (λ c. search needs) (λ c. search needs)
+    (λ c κs. search needs) (λ c κs. search needs) (λ c κs. search needs) (λ c κs. search needs) (λ c. search needs) (λ c. search needs)
+    (λ c. omega (arith, c .before .before .before .before .before .before .before .before .before .before .before .before .before .before .before .before .before .renew .kept .1 .1 .1 .1 .1 .1 .0))
+    (λ c. search needs)
     returns-4
-    (λ c κs. search needs) (λ c. search needs) (λ c. search needs) (λ c. search needs)
+    (λ c κs. search needs) (λ c κs. search needs) (λ c. search needs) (λ c. search needs) (λ c. search needs)
     returns-5)

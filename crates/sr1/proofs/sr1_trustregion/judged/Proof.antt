@@ -1,7 +1,7 @@
 -- `sr1::sr1_trustregion::judged` meets its contract. Assumes nothing.
 use mathlib.Core.Path.{sym, ap, _∙_}
 use borrow.Author.Needs.{needs}
-use Rattle.sr1.specs.Session.{promised}
+use Rattle.offer.specs.State.{promised}
 use Rattle.sr1.proofs.Ends.{judges-not, judges-out-of-turn, judges-in-turn}
 use Rattle.sr1.proofs.sr1_trustregion.judged.Statement.{statement}
 use Rattle.sr1.proofs.sr1_trustregion.judged.Tie as tie
@@ -24,15 +24,23 @@ returns-3 c =
     let told = c .before .before .before in
     judges-out-of-turn _ _ _ _ _ _ _ _ _ _ _ (told .before .before .judgement-checked .ensures) (told .enum-told .given .1) (ap promised (c .before .enum-told2 .given .1)) _ (c .refusing2 .ensures)
 
+returns-4 : tie.Need-returns-4
+returns-4 c =
+    let told = c .before .before .before in
+    judges-out-of-turn _ _ _ _ _ _ _ _ _ _ _ (told .before .before .judgement-checked .ensures) (told .enum-told .given .1) (ap promised (c .before .enum-told3 .given .1)) _ (c .refusing3 .ensures)
+
 pub judged-spec : {M : Type 1} → statement M
 judged-spec =
     tie.close
     (tie.spec
     (λ c κs. search needs) (λ c. search needs) (λ c κs. search needs) (λ c. search needs) (λ c. search needs)
     judge-requires
-    (λ c. search needs) (λ c κs. search needs) (λ c. search needs) (λ c. search needs) (λ c. search needs) (λ c. search needs)
+    (λ c. search needs) (λ c κs. search needs) (λ c. search needs) (λ c κs. search needs)
+    (λ c. search needs) (λ c. search needs) (λ c. search needs) (λ c. search needs)
     returns
     (λ c. search needs) (λ c. search needs) (λ c. search needs) (λ c. search needs)
     returns-2
     (λ c. search needs) (λ c. search needs) (λ c. search needs) (λ c. search needs)
-    returns-3)
+    returns-3
+    (λ c. search needs) (λ c. search needs) (λ c. search needs) (λ c. search needs)
+    returns-4)

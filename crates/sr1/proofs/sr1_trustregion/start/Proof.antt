@@ -2,12 +2,13 @@
 use mathlib.Core.Path.{_≡_, _∙_}
 use borrow.Author.Needs.{needs}
 use Rattle.vectors.specs.Refusal.{judged}
-use Rattle.sr1.specs.Session.{start-checks}
+use Rattle.offer.specs.Offer.{start-checks}
+use Rattle.sr1.specs.Settings.{in-range}
 use Rattle.sr1.proofs.Ends.{starts-not, starts}
 use Rattle.sr1.proofs.sr1_trustregion.start.Statement.{statement}
 use Rattle.sr1.proofs.sr1_trustregion.start.Tie as tie
 
-judges : (c : tie.After-verdict) → let a = c .before .before .before .args in c .verdict .result ≡ judged (start-checks (a .settings) (a .cost))
+judges : (c : tie.After-verdict) → let a = c .before .before .before .args in c .verdict .result ≡ judged (start-checks (in-range (a .settings)) (a .cost))
 judges c = c .verdict .ensures ∙ rw (c .before .before .in-range .ensures, c .before .finite .ensures)
 
 pub start-spec : {M : Type 1} → statement M

@@ -18,22 +18,22 @@ returns-2 c =
 
 returns-3 : tie.Need-returns-3
 returns-3 c =
-    let copied = c .before .before .before in
+    let copied = c .before .before .before .before in
     let tested = copied .before .before in
     let near = tested .before .before in
     let radius = near .before .before in
     let taken = radius .before .before in
     judge-accepts _ _ _ _ _ (passed (taken .before .answered .ensures) (taken .if1 .left)) _ _ (radius .before .reduction-ratio .ensures) (radius .next-radius .ensures)
-    (passed (near .before .finite .ensures) (near .if2 .left)) (tested .if3 .taken) (taken .before .before .before .before .pre) _ (copied .copy .ensures) _ (c .moved .ensures)
+    (passed (near .before .finite .ensures) (near .if2 .left)) (tested .if3 .taken) (taken .before .before .before .before .pre) _ (copied .copy .ensures) _ (c .before .moved .ensures) _ (c .answering .ensures)
 
 returns-4 : tie.Need-returns-4
 returns-4 c =
-    let tested = c .before in
+    let tested = c .before .before in
     let near = tested .before .before in
     let radius = near .before .before in
     let taken = radius .before .before in
     judge-rejects _ _ _ _ _ (passed (taken .before .answered .ensures) (taken .if1 .left)) _ _ (radius .before .reduction-ratio .ensures) (radius .next-radius .ensures)
-    (passed (near .before .finite .ensures) (near .if2 .left)) (tested .if3 .left) _ (c .moved2 .ensures)
+    (passed (near .before .finite .ensures) (near .if2 .left)) (tested .if3 .left) _ (c .before .moved2 .ensures) _ (c .answering2 .ensures)
 
 pub judge-spec : {M : Type 1} → statement M
 judge-spec =
@@ -43,7 +43,7 @@ judge-spec =
     returns
     (λ c κs. search needs) (λ c κs. search needs) (λ c κs. search needs) (λ c κs. search needs)
     returns-2
-    (λ c κs. search needs) (λ c κs. search needs) (λ c. search needs)
+    (λ c κs. search needs) (λ c κs. search needs) (λ c κs. search needs) (λ c. search needs)
     returns-3
-    (λ c κs. search needs)
+    (λ c κs. search needs) (λ c κs. search needs)
     returns-4)

@@ -2,7 +2,7 @@
 use mathlib.Core.Path.{ap}
 use denote.Ref.{now}
 use borrow.Author.Needs.{needs}
-use Rattle.trustregion.specs.Session.{promised}
+use Rattle.offer.specs.State.{promised}
 use Rattle.trustregion.proofs.Ends.{judges-not, judged-lengths, judges-out-of-turn, judges-in-turn}
 use Rattle.trustregion.proofs.trustregion_method.judged.Statement.{statement}
 use Rattle.trustregion.proofs.trustregion_method.judged.Tie as tie
@@ -10,7 +10,7 @@ use Rattle.trustregion.proofs.trustregion_method.judged.Tie as tie
 judge-requires : tie.Need-judge-requires
 judge-requires c κs =
     let told = c .before .before .before .before in
-    let a = told .before .before .before .before .before .before .args in
+    let a = told .before .before .before .before .before .before .before .args in
     judged-lengths (a .s) (a .n) (a .cost) (now (a .point)) (now (a .trial)) _ (told .before .before .judgement-checked .ensures) (told .enum-told .given .1)
 
 returns : tie.Need-returns

@@ -9,7 +9,7 @@ use Rattle.trustregion.proofs.trustregion_method.proposed.Statement.{st
 use Rattle.trustregion.proofs.trustregion_method.proposed.Tie as tie
 
 -- the verdict is on the session and on what was lent
-judges : (c : tie.After-proposal) → let a = c .before .before .before .before .before .before .before .before .before .before .before .before .before .args in
+judges : (c : tie.After-proposal) → let a = c .before .before .before .before .before .before .before .before .before .before .before .before .before .before .args in
     c .proposal .result ≡ judged (proposal-checks (a .s) (a .n) (now (a .point)) (now (a .gradient)) (now (a .hessian)) (now (a .step)) (now (a .trial)) (now (a .scratch)))
 judges c = c .proposal .ensures ∙ rw (c .before .before .before .before .before .sound .ensures, c .before .before .before .before .is-ready .ensures)
 

@@ -1,7 +1,7 @@
--- `foreign_sessions::trust_region::phase_of` meets its contract. Assumes nothing.
+-- `foreign_sessions::phase_of` meets its contract. Assumes nothing.
 use borrow.Author.Tests.{eq-eqb, ne-eqb}
-use Rattle.foreign_sessions.proofs.trust_region.phase_of.Statement.{statement}
-use Rattle.foreign_sessions.proofs.trust_region.phase_of.Tie as tie
+use Rattle.foreign_sessions.proofs.phase_of.Statement.{statement}
+use Rattle.foreign_sessions.proofs.phase_of.Tie as tie
 
 returns : tie.Need-returns
 returns c = rw (eq-eqb _ _ (c .if1 .taken))

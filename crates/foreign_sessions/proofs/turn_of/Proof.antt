@@ -1,0 +1,11 @@
+-- `foreign_sessions::turn_of` meets its contract. Assumes nothing.
+use borrow.Author.Needs.{needs}
+use Rattle.foreign_sessions.proofs.turn_of.Statement.{statement}
+use Rattle.foreign_sessions.proofs.turn_of.Tie as tie
+
+pub turn-of-spec : {M : Type 1} → statement M
+turn-of-spec =
+    tie.close
+    (tie.spec
+    (λ c. search needs) (λ c. search needs) (λ c. search needs)
+    (λ c. rw (c .enum-told .given .1)) (λ c. rw (c .before .phase .given .1)) (λ c. rw (c .enum-told2 .given .1)))

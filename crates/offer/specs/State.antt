@@ -1,0 +1,68 @@
+-- What a session of either kind keeps beside its settings, and what its calls say. Definitions only.
+use mathlib.Core.Bool.{Bool, true, false, cond}
+use mathlib.Core.List.{[], _∷_}
+use lib.Ieee.{Float, le}
+use Rattle.float.specs.Numbers.{finite}
+use Rattle.float.specs.Constants.{nought}
+use Rattle.vectors.specs.Refusal.{Answer, refused, given, all-hold}
+use Rattle.vectors.specs.declared.refusal.Refusal.the-variants.{Turn}
+use Rattle.offer.specs.declared.state.Phase.{Phase}
+use Rattle.offer.specs.declared.state.Phase.the-variants.{Ready, AwaitingCost, AwaitingDerivatives}
+use Rattle.offer.specs.declared.state.State.{State}
+use Rattle.offer.specs.declared.state.Outcome.{Outcome}
+use Rattle.offer.specs.declared.state.Outcome.the-variants.{Refused, Accepted, Rejected}
+
+-- ---- "A session is the settings with the radius and the cost and a phase"
+
+abbrev pub begin : (radius cost : Float) → State
+begin radius cost = record { radius = radius; cost = cost; phase = Ready }
+
+-- with another radius and cost, in another phase
+abbrev pub moved : State → (radius cost : Float) → Phase → State
+moved state radius cost phase = record { radius = radius; cost = cost; phase = phase }
+
+-- only in another phase
+abbrev pub in-phase : Phase → State → State
+in-phase phase state = moved state (state .radius) (state .cost) phase
+
+-- not "a session with negative or not finite radius, or cost not finite"
+abbrev pub steady : State → Bool
+steady state = all-hold (finite (state .radius) ∷ le nought (state .radius) ∷ finite (state .cost) ∷ [])
+
+-- ---- phases: "ready; awaiting a cost, with the model value and step norm it was promised on; awaiting derivatives"
+
+abbrev pub is-ready : Phase → Bool
+is-ready Ready = true
+is-ready (AwaitingCost value norm) = false
+is-ready AwaitingDerivatives = false
+
+abbrev pub awaits-cost : Phase → Bool
+awaits-cost Ready = false
+awaits-cost (AwaitingCost value norm) = true
+awaits-cost AwaitingDerivatives = false
+
+abbrev pub awaits-derivatives : Phase → Bool
+awaits-derivatives Ready = false
+awaits-derivatives (AwaitingCost value norm) = false
+awaits-derivatives AwaitingDerivatives = true
+
+-- the model value m, or SR1's "P .. kept in place of m"
+pub record Promise : Type 0 where
+  pub value : Float
+  pub norm : Float
+
+-- what a session that awaits a cost was promised on; any other is out of turn
+abbrev pub promised : Phase → Answer Promise
+promised Ready = refused Turn
+promised (AwaitingCost value norm) = given (record { value = value; norm = norm })
+promised AwaitingDerivatives = refused Turn
+
+-- ---- what a call says
+
+abbrev pub verdict-of : (accepted : Bool) → (ratio : Float) → Outcome
+verdict-of accepted ratio = cond accepted (Accepted ratio) (Rejected ratio)
+
+-- what a call returns of its answer, for a session s, where `saying` is how a session is returned with what the call says
+abbrev pub told : {A S R : Type 0} → (saying : S → Outcome → R) → (A → S) → (A → Outcome) → Answer A → S → R
+told saying session outcome (refused r) s = saying s (Refused r)
+told saying session outcome (given a) s = saying (session a) (outcome a)
