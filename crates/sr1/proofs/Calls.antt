@@ -1,5 +1,5 @@
--- The calls of a run are the calls of the code: whatever meets the predicate that a contract of the code states, at a station, is what the run has there. Assumes nothing.
-use mathlib.Core.Path.{_≡_, refl, _∙_}
+-- The calls of a run are the calls of the code: whatever meets the predicate that a contract of the code states, at a station, is what the run has there, and that meets it. Assumes nothing.
+use mathlib.Core.Path.{_≡_, refl, sym, _∙_}
 use mathlib.Core.List.{List}
 use Prim.Native.Nat.{ℕ}
 use lib.Ieee.{Float}
@@ -40,3 +40,15 @@ module _ (kernel : Settings → Kernel) (s : Station) (n : ℕ) where
   run-judges F G r point gradient hessian scratch p =
       let e = p .says ∙ says-judgement s F (judgement-at s n F G) in
       does outcome _ (λ i. e i .outcome) (λ i. e i .session) (λ i. record { point = p .leaves-point i; gradient = p .leaves-gradient i; hessian = p .leaves-hessian i; step = s .lent .step; trial = s .lent .trial; scratch = p .leaves-scratch i })
+
+  -- and what the run has meets the predicate
+  pub proposes-so : let d = respond kernel (propose n) s in
+      Proposes (proposal-at kernel s n) (s .session) (s .lent .step) (s .lent .trial) (s .lent .scratch) (record { session = d .after .session; outcome = outcome (d .reply) }) (d .after .lent .step) (d .after .lent .trial) (d .after .lent .scratch)
+  unfolding respond on-proposal
+  proposes-so = record { says = sym (says-proposal s (proposal-at kernel s n)); leaves-step = refl; leaves-trial = refl; leaves-scratch = refl }
+
+  pub judges-so : (F : Float) (G : List Float) → let d = respond kernel (answer n F G) s in
+      Judges (judgement-at s n F G) (s .session) (s .lent .point) (s .lent .gradient) (s .lent .hessian) (s .lent .scratch) (record { session = d .after .session; outcome = outcome (d .reply) })
+      (d .after .lent .point) (d .after .lent .gradient) (d .after .lent .hessian) (d .after .lent .scratch)
+  unfolding respond on-judgement
+  judges-so F G = record { says = sym (says-judgement s F (judgement-at s n F G)); leaves-point = refl; leaves-gradient = refl; leaves-hessian = refl; leaves-scratch = refl }

@@ -1,5 +1,5 @@
--- The calls of a run are the calls of the code: whatever meets the predicate that a contract of the code states, at a station, is what the run has there. Assumes nothing.
-use mathlib.Core.Path.{_≡_, refl, _∙_}
+-- The calls of a run are the calls of the code: whatever meets the predicate that a contract of the code states, at a station, is what the run has there, and that meets it. Assumes nothing.
+use mathlib.Core.Path.{_≡_, refl, sym, _∙_}
 use mathlib.Core.List.{List}
 use Prim.Native.Nat.{ℕ}
 use lib.Ieee.{Float}
@@ -52,3 +52,19 @@ module _ (kernel : Settings → Kernel) (s : Station) (n : ℕ) where
   run-proposes r step trial scratch p =
       let e = p .says ∙ says-proposal s (proposal-at kernel s n) in
       does outcome _ (λ i. e i .outcome) (λ i. e i .session) (λ i. record { point = s .lent .point; gradient = s .lent .gradient; hessian = s .lent .hessian; step = p .leaves-step i; trial = p .leaves-trial i; scratch = p .leaves-scratch i })
+
+  -- and what the run has meets the predicate
+  pub proposes-so : let d = respond kernel (propose n) s in
+      Proposes (proposal-at kernel s n) (s .session) (s .lent .step) (s .lent .trial) (s .lent .scratch) (record { session = d .after .session; outcome = outcome (d .reply) }) (d .after .lent .step) (d .after .lent .trial) (d .after .lent .scratch)
+  unfolding respond on-proposal
+  proposes-so = record { says = sym (says-proposal s (proposal-at kernel s n)); leaves-step = refl; leaves-trial = refl; leaves-scratch = refl }
+
+  pub judges-so : (F : Float) → let d = respond kernel (cost n F) s in
+      Judges (judgement-at s n F) (s .session) (s .lent .point) (record { session = d .after .session; outcome = outcome (d .reply) }) (d .after .lent .point)
+  unfolding respond on-judgement
+  judges-so F = record { says = sym (says-judgement s F (judgement-at s n F)); leaves-point = refl }
+
+  pub renews-so : (g H : List Float) → let d = respond kernel (derivatives n g H) s in
+      Renews (renewal-at s n g H) (s .session) (s .lent .gradient) (s .lent .hessian) (record { session = d .after .session; outcome = outcome (d .reply) }) (d .after .lent .gradient) (d .after .lent .hessian)
+  unfolding respond on-renewal
+  renews-so g H = record { says = sym (says-renewal s (renewal-at s n g H)); leaves-gradient = refl; leaves-hessian = refl }
