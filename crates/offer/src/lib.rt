@@ -85,8 +85,8 @@ fn hand_out(
 }
 
 // The kernel that is chosen is run, and its step and the trial are written, unless a refusal is due. A door for sessions
-// that have looked, and public for the same reason as `lay_unchecked`, which it calls: n, all lengths and the kernel's
-// number are asked here, and no radius, epsilon, limit or entry.
+// that have looked, and public for the same reason as `lay_unchecked`, which it calls: n, all lengths, whether the radius
+// is zero and the kernel's number are asked here, and no other radius, epsilon, limit or entry.
 pub fn make_unchecked(
     choice: Choice,
     n: usize,
