@@ -37,6 +37,24 @@ unless-elim P (c ∷ cs) a bad good = go (c .applies) (λ v. unless-elim P cs a 
     go true k = bad (c .refusal)
     go false k = k tt
 
+-- the checked answers are one where the answers are, should no check apply
+pub unless-same : {A : Type 0} (cs : List Check) (a b : Answer A) → (None cs → a ≡ b) → unless cs a ≡ unless cs b
+unless-same [] a b e = e tt
+unless-same (c ∷ cs) a b e = go (c .applies) (λ v. unless-same cs a b (λ w. e (v, w)))
+  where
+    go : (t : Bool) → (T (not t) → unless cs a ≡ unless cs b) → cond t (refused (c .refusal)) (unless cs a) ≡ cond t (refused (c .refusal)) (unless cs b)
+    go true k = refl
+    go false k = k tt
+
+-- what follows a checked answer is checked alike
+pub then-unless : {A B : Type 0} (f : A → Answer B) (cs : List Check) (a : Answer A) → then f (unless cs a) ≡ unless cs (then f a)
+then-unless f [] a = refl
+then-unless f (c ∷ cs) a = go (c .applies) (then-unless f cs a)
+  where
+    go : (t : Bool) → then f (unless cs a) ≡ unless cs (then f a) → then f (cond t (refused (c .refusal)) (unless cs a)) ≡ cond t (refused (c .refusal)) (unless cs (then f a))
+    go true e = refl
+    go false e = e
+
 pub then-elim : {A B : Type 0} (P : Answer B → Type 0) (f : A → Answer B) (a : Answer A) → ((r : Refusal) → P (refused r)) → ((x : A) → a ≡ given x → P (f x)) → P (then f a)
 then-elim P f (refused r) bad good = bad r
 then-elim P f (given x) bad good = good x refl

@@ -7,26 +7,31 @@ use native.Mathlib.Omega.{arith}
 use lib.ListN.{length, take, drop}
 use lib.Seq.{take-at}
 use lib.Ieee.{Float, eq}
+use lib.Ieee.Bits.{is-true}
 use borrow.Author.Tests.{eq-eqb}
 use Rattle.float.specs.Constants.{nought}
 use Rattle.vectors.specs.Vector.{plus, zeros, all-finite}
 use Rattle.vectors.specs.Slots.{slot, Puts}
-use Rattle.vectors.specs.Refusal.{Answer, refused, given, unless, then, all-hold, size, sized, room, scratch-after}
+use Rattle.vectors.specs.Refusal.{Answer, refused, given, Check, unless, judged, then, all-hold, size, sized, room, scratch-after}
 use Rattle.kernels.specs.Kernel.{Made, made, Proper, Laid}
 use Rattle.kernels.specs.Choice.{known, kernel, door}
-use Rattle.kernels.specs.declared.choice.Choice.{Choice}
 use Rattle.vectors.specs.declared.refusal.Refusal.{Refusal}
 use Rattle.vectors.specs.declared.refusal.Refusal.the-variants.{Size, Setting, Radius, Range}
+use Rattle.vectors.specs.declared.refusal.Verdict.{Verdict}
+use Rattle.vectors.specs.declared.refusal.Verdict.the-variants.{Passed, Failed}
 use Rattle.kernels.specs.declared.kernel.Stepped.{Stepped}
 use Rattle.kernels.specs.declared.kernel.Stepped.the-variants as stepped
 use Rattle.vectors.proofs.Slots.{length-slot}
 use Rattle.vectors.proofs.Sizes.{size-test}
 use Rattle.kernels.proofs.Choices.{kernel-proper}
-use Rattle.offer.specs.Offer.{all-sized, offered, offer, step-checks, stepping}
+use Rattle.kernels.proofs.Kernels.{unless-passed, unless-failed, early}
+use Rattle.offer.specs.Offer.{all-sized, proposal-checks, Offer, offered, offer, step-checks, stepping}
 use Rattle.offer.specs.Calls.{replaced, offering, measured, Offers}
+use Rattle.offer.specs.declared.Asked.{Asked}
 use Rattle.offer.specs.declared.Offered.{Offered}
 use Rattle.offer.specs.declared.Offered.the-variants.{Refused}
-use Rattle.offer.proofs.Lengths.{lent-true, copied}
+use Rattle.offer.proofs.Lengths.{Lent, lent-true, copied}
+use Rattle.offer.proofs.Checks.{None, passed-none, unless-elim, unless-same, not-not}
 
 -- ---- a step that was laid out
 
@@ -91,49 +96,76 @@ given-long n false true a m p e = absurd (let z : _≡_ {A = ℕ} 0 1 = cc in om
 given-long n false false (refused r) m p e = absurd (let z : _≡_ {A = ℕ} 0 1 = cc in omega arith)
 given-long n false false (given x) m p e = let same : m ≡ x = cc in rw same p
 
-module _ (c : Choice) (n : ℕ) (radius : Float) (point g H step trial w : List Float) where
-  door-long : (m : Made) → door c n radius g H w ≡ given m → length (m .step) ≡ n
+module _ (asked : Asked) (n : ℕ) (point g H step trial w : List Float) where
+  abbrev checks : List Check
+  checks = proposal-checks (asked .sound) (asked .state) n point g H step trial w
+
+  abbrev radius : Float
+  radius = asked .state .radius
+
+  abbrev opened : Answer Made
+  opened = door (asked .choice) n radius g H w
+
+  door-long : (m : Made) → opened ≡ given m → length (m .step) ≡ n
   unfolding door
   door-long m e =
-      given-long n (not (all-hold (size n ∷ sized (n * n) H ∷ sized n g ∷ sized (room n) w ∷ []))) (not (known (c .kernel)))
-      (kernel c n radius g H) m (kernel-proper c n radius g H) e
+      given-long n (not (all-hold (size n ∷ sized (n * n) H ∷ sized n g ∷ sized (room n) w ∷ []))) (not (known (asked .choice .kernel)))
+      (kernel (asked .choice) n radius g H) m (kernel-proper (asked .choice) n radius g H) e
 
-  pub no-size : all-sized n point g H step trial w ≡ false
-      → Offers n g H (offering c n radius point g H step trial w) (Refused Size) step trial w step trial w
+  sizes-lent : None checks → Lent n (length point) (length g) (length H) (length step) (length trial) (length w)
+  sizes-lent none = lent-true n (length point) (length g) (length H) (length step) (length trial) (length w) (is-true _ (not-not (all-sized n point g H step trial w) (none .0)))
+
+  -- by the chosen kernel itself, which a session's definitions speak of
+  pub offers-kernel : (asked .sound ≡ true → known (asked .choice .kernel) ≡ true) → offering asked n point g H step trial w ≡ unless checks (stepping (kernel (asked .choice)) n radius point g H)
+  unfolding offering door
+  offers-kernel k = unless-same checks (unless (step-checks radius) (then (offer n point) opened)) (stepping (kernel (asked .choice)) n radius point g H) by-kernel where
+    by-kernel : None checks → unless (step-checks radius) (then (offer n point) opened) ≡ stepping (kernel (asked .choice)) n radius point g H
+    by-kernel none =
+        let l = sizes-lent none in
+        let named = k (is-true _ (not-not (asked .sound) (none .1 .0))) in
+        rw (size-test (l .square), eq-eqb (length H) (n * n) (l .square .long), eq-eqb (length g) n (l .gradient), eq-eqb (length w) (room n) (l .scratch), named)
+
+  -- what holds of every refusal, and where the sizes are right of every answer, holds of this one
+  pub offered-elim : (P : Answer Offer → Type 0) → ((r : Refusal) → P (refused r)) → (Lent n (length point) (length g) (length H) (length step) (length trial) (length w) → (a : Answer Offer) → P a)
+      → P (offering asked n point g H step trial w)
   unfolding offering
-  no-size e = rw e (record { says = refl; leaves-step = refl; leaves-trial = refl; leaves-scratch = refl })
+  offered-elim P bad good = unless-elim P checks (unless (step-checks radius) (then (offer n point) opened)) bad (λ none. good (sizes-lent none) (unless (step-checks radius) (then (offer n point) opened)))
 
-  module _ (e : all-sized n point g H step trial w ≡ true) where
-    checked : offering c n radius point g H step trial w ≡ unless (step-checks radius) (then (offer n point) (door c n radius g H w))
+  -- v is the code's verdict on the checks
+  module _ (v : Verdict) (judges : v ≡ judged checks) where
+    pub no-checks : (r : Refusal) → v ≡ Failed r → Offers n g H (offering asked n point g H step trial w) (Refused r) step trial w step trial w
     unfolding offering
-    checked = rw e
+    no-checks r e =
+        rw (unless-failed checks (unless (step-checks radius) (then (offer n point) opened)) r (sym judges ∙ e))
+        (record { says = refl; leaves-step = refl; leaves-trial = refl; leaves-scratch = rw (early checks r (refl, (refl, (refl, (refl, tt)))) (sym judges ∙ e)) })
 
-    -- by the chosen kernel itself, which a session's definitions speak of
-    pub offers-kernel : known (c .kernel) ≡ true → offering c n radius point g H step trial w ≡ stepping (kernel c) n radius point g H
-    unfolding door
-    offers-kernel k =
-        let l = lent-true n (length point) (length g) (length H) (length step) (length trial) (length w) e in
-        checked ∙ rw (size-test (l .square), eq-eqb (length H) (n * n) (l .square .long), eq-eqb (length g) n (l .gradient), eq-eqb (length w) (room n) (l .scratch), k)
+    module _ (e : v ≡ Passed) where
+      pub lent : Lent n (length point) (length g) (length H) (length step) (length trial) (length w)
+      lent = sizes-lent (passed-none checks (sym judges ∙ e))
 
-    pub no-radius : eq radius nought ≡ true → Offers n g H (offering c n radius point g H step trial w) (Refused Radius) step trial w step trial w
-    no-radius z = rw (checked, z) (record { says = refl; leaves-step = refl; leaves-trial = refl; leaves-scratch = refl })
+      checked : offering asked n point g H step trial w ≡ unless (step-checks radius) (then (offer n point) opened)
+      unfolding offering
+      checked = unless-passed checks _ (sym judges ∙ e)
 
-    module _ (far : eq radius nought ≡ false) (found : Stepped) (w₁ : List Float) (laid : Laid (door c n radius g H w) found w w₁) where
-      pub no-step : (r : Refusal) → found ≡ stepped.Refused r
-          → Offers n g H (offering c n radius point g H step trial w) (Refused r) step trial w step trial w₁
-      no-step r f = rw (checked, far) (go (door c n radius g H w) laid) where
-        go : (a : Answer Made) → Laid a found w w₁ → Offers n g H (then (offer n point) a) (Refused r) step trial w step trial w₁
-        go (refused x) h = let same : r ≡ x = (let both : stepped.Refused r ≡ stepped.Refused x = sym f ∙ h .says in cc) in record { says = ap Refused same; leaves-step = refl; leaves-trial = refl; leaves-scratch = h .lays }
-        go (given m) h = absurd (let both : stepped.Refused r ≡ stepped.In (m .passes) = sym f ∙ h .says in let z : _≡_ {A = ℕ} 0 1 = cc in omega arith)
+      pub no-radius : eq radius nought ≡ true → Offers n g H (offering asked n point g H step trial w) (Refused Radius) step trial w step trial w
+      no-radius z = rw (checked, z) (record { says = refl; leaves-step = refl; leaves-trial = refl; leaves-scratch = refl })
 
-      pub step-made : (passes : ℕ) (r : Offered) (step′ trial′ w′ : List Float) → found ≡ stepped.In passes → length w₁ ≡ length w
-          → Offers n g H (offer n point (made passes (slot w₁ n 0))) r step trial w₁ step′ trial′ w′
-          → Offers n g H (offering c n radius point g H step trial w) r step trial w step′ trial′ w′
-      step-made passes r step′ trial′ w′ f l o = rw (checked, far) (go (door c n radius g H w) laid door-long) where
-        go : (a : Answer Made) → Laid a found w w₁ → ((m : Made) → a ≡ given m → length (m .step) ≡ n) → Offers n g H (then (offer n point) a) r step trial w step′ trial′ w′
-        go (refused x) h long = absurd (let both : stepped.In passes ≡ stepped.Refused x = sym f ∙ h .says in let z : _≡_ {A = ℕ} 0 1 = cc in omega arith)
-        go (given m) h long =
-            let count : passes ≡ m .passes = (let both : stepped.In passes ≡ stepped.In (m .passes) = sym f ∙ h .says in cc) in
-            let first : slot w₁ n 0 ≡ m .step = ap (λ (v : List Float). slot v n 0) (h .lays) ∙ slot-laid (m .step) _ n (long m refl) in
-            let o′ : Offers n g H (offer n point m) r step trial w₁ step′ trial′ w′ = rw (count, first) at o in
-            record { says = o′ .says; leaves-step = o′ .leaves-step; leaves-trial = o′ .leaves-trial; leaves-scratch = o′ .leaves-scratch ∙ scratch-same n point m w₁ w l }
+      module _ (far : eq radius nought ≡ false) (found : Stepped) (w₁ : List Float) (laid : Laid opened found w w₁) where
+        pub no-step : (r : Refusal) → found ≡ stepped.Refused r
+            → Offers n g H (offering asked n point g H step trial w) (Refused r) step trial w step trial w₁
+        no-step r f = rw (checked, far) (go opened laid) where
+          go : (a : Answer Made) → Laid a found w w₁ → Offers n g H (then (offer n point) a) (Refused r) step trial w step trial w₁
+          go (refused x) h = let same : r ≡ x = (let both : stepped.Refused r ≡ stepped.Refused x = sym f ∙ h .says in cc) in record { says = ap Refused same; leaves-step = refl; leaves-trial = refl; leaves-scratch = h .lays }
+          go (given m) h = absurd (let both : stepped.Refused r ≡ stepped.In (m .passes) = sym f ∙ h .says in let z : _≡_ {A = ℕ} 0 1 = cc in omega arith)
+
+        pub step-made : (passes : ℕ) (r : Offered) (step′ trial′ w′ : List Float) → found ≡ stepped.In passes → length w₁ ≡ length w
+            → Offers n g H (offer n point (made passes (slot w₁ n 0))) r step trial w₁ step′ trial′ w′
+            → Offers n g H (offering asked n point g H step trial w) r step trial w step′ trial′ w′
+        step-made passes r step′ trial′ w′ f l o = rw (checked, far) (go opened laid door-long) where
+          go : (a : Answer Made) → Laid a found w w₁ → ((m : Made) → a ≡ given m → length (m .step) ≡ n) → Offers n g H (then (offer n point) a) r step trial w step′ trial′ w′
+          go (refused x) h long = absurd (let both : stepped.In passes ≡ stepped.Refused x = sym f ∙ h .says in let z : _≡_ {A = ℕ} 0 1 = cc in omega arith)
+          go (given m) h long =
+              let count : passes ≡ m .passes = (let both : stepped.In passes ≡ stepped.In (m .passes) = sym f ∙ h .says in cc) in
+              let first : slot w₁ n 0 ≡ m .step = ap (λ (v : List Float). slot v n 0) (h .lays) ∙ slot-laid (m .step) _ n (long m refl) in
+              let o′ : Offers n g H (offer n point m) r step trial w₁ step′ trial′ w′ = rw (count, first) at o in
+              record { says = o′ .says; leaves-step = o′ .leaves-step; leaves-trial = o′ .leaves-trial; leaves-scratch = o′ .leaves-scratch ∙ scratch-same n point m w₁ w l }

@@ -1,6 +1,6 @@
 -- What the calls of this crate give and leave, for every input, refused ones too. Definitions only.
 use mathlib.Core.Path.{_≡_}
-use mathlib.Core.Bool.{Bool, cond, not, _&&_}
+use mathlib.Core.Bool.{Bool, cond, not}
 use mathlib.Core.List.{List, [], _∷_}
 use Prim.Native.Nat.{ℕ}
 use lib.Dec.{eqb}
@@ -9,9 +9,9 @@ use lib.Ieee.{Float}
 use Rattle.vectors.specs.Vector.{dot, weighted, norm, all-finite}
 use Rattle.vectors.specs.Refusal.{Answer, refused, given, Check, _if_, unless, then, size, left-in, scratch-after}
 use Rattle.kernels.specs.Choice.{door}
-use Rattle.kernels.specs.declared.choice.Choice.{Choice}
 use Rattle.vectors.specs.declared.refusal.Refusal.the-variants.{Size, Setting, Turn, Entry}
-use Rattle.offer.specs.Offer.{all-sized, Offer, offer, step-checks}
+use Rattle.offer.specs.Offer.{proposal-checks, Offer, offer, step-checks}
+use Rattle.offer.specs.declared.Asked.{Asked}
 use Rattle.offer.specs.declared.Offered.{Offered}
 use Rattle.offer.specs.declared.Offered.the-variants as offered
 
@@ -24,23 +24,18 @@ early-checks sized sound in-turn finite =
     ∷ (Entry if not finite)
     ∷ []
 
--- those of a proposal
-abbrev pub proposal-checks : ℕ → (sound ready : Bool) → (point gradient hessian step trial scratch : List Float) → List Check
-proposal-checks n sound ready point gradient hessian step trial scratch =
-    early-checks (all-sized n point gradient hessian step trial scratch) sound ready (all-finite point && all-finite gradient && all-finite hessian)
-
 -- what a vector becomes that takes the numbers of another: one of another length stays
 abbrev pub replaced : (from to : List Float) → List Float
 replaced from to = cond (eqb (length to) (length from)) from to
 
 -- ---- a step is offered
 
--- refusal 5 and the kernel's door, with the vectors of a proposal beside its own, and then the trial
-unfoldable pub offering : Choice → ℕ → (radius : Float) → (point gradient hessian step trial scratch : List Float) → Answer Offer
-unfolding size door offer
-offering c n radius point gradient hessian step trial scratch =
-    unless ((Size if not (all-sized n point gradient hessian step trial scratch)) ∷ step-checks radius)
-    (then (offer n point) (door c n radius gradient hessian scratch))
+-- refusals 1 to 5 and the kernel's door, and then the trial
+unfoldable pub offering : Asked → ℕ → (point gradient hessian step trial scratch : List Float) → Answer Offer
+unfolding size all-finite door offer
+offering asked n point gradient hessian step trial scratch =
+    unless (proposal-checks (asked .sound) (asked .state) n point gradient hessian step trial scratch)
+    (unless (step-checks (asked .state .radius)) (then (offer n point) (door (asked .choice) n (asked .state .radius) gradient hessian scratch)))
 
 -- a step p with its passes, p·g, p·H·p and ‖p‖
 abbrev pub measured : ℕ → (gradient hessian : List Float) → (passes : ℕ) → (p : List Float) → Offered

@@ -1,5 +1,5 @@
 -- What every session that offers a step shares. Definitions only.
-use mathlib.Core.Bool.{Bool, not, _||_}
+use mathlib.Core.Bool.{Bool, not, _&&_, _||_}
 use mathlib.Core.List.{List, [], _∷_}
 use Prim.Native.Nat.{ℕ, _*_}
 use lib.Ieee.{Float, eq, isNan}
@@ -8,7 +8,9 @@ use Rattle.float.specs.Constants.{nought}
 use Rattle.vectors.specs.Vector.{plus, all-finite}
 use Rattle.vectors.specs.Refusal.{Answer, given, Check, _if_, unless, then, all-hold, size, sized, room}
 use Rattle.kernels.specs.Kernel.{Made, Kernel}
-use Rattle.vectors.specs.declared.refusal.Refusal.the-variants.{Setting, Entry, Radius, Range}
+use Rattle.vectors.specs.declared.refusal.Refusal.the-variants.{Size, Setting, Turn, Entry, Radius, Range}
+use Rattle.offer.specs.State.{is-ready}
+use Rattle.offer.specs.declared.state.State.{State}
 
 -- "n is 1 to 64. Vectors have n numbers, matrices n·n by rows, scratch 2·n·n + 8·n, each exactly."
 abbrev pub all-sized : ℕ → (point gradient hessian step trial scratch : List Float) → Bool
@@ -23,6 +25,17 @@ cost-taken F = finite F || isNan F
 -- a start "takes settings and cost only": `ranged` says that its settings are in range
 abbrev pub start-checks : (ranged : Bool) → (f : Float) → List Check
 start-checks ranged f = (Setting if not ranged) ∷ (Entry if not (finite f)) ∷ []
+
+-- ---- propose
+
+-- refusals 1 to 4 of a proposal; `sound` says that refusal 2 finds nothing in the session
+abbrev pub proposal-checks : (sound : Bool) → State → ℕ → (point gradient hessian step trial scratch : List Float) → List Check
+proposal-checks sound state n point gradient hessian step trial scratch =
+    (Size if not (all-sized n point gradient hessian step trial scratch))
+    ∷ (Setting if not sound)
+    ∷ (Turn if not (is-ready (state .phase)))
+    ∷ (Entry if not (all-finite point && all-finite gradient && all-finite hessian))
+    ∷ []
 
 -- what a proposal hands out
 pub record Offer : Type 0 where

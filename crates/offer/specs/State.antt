@@ -31,20 +31,20 @@ steady state = all-hold (finite (state .radius) ∷ le nought (state .radius) �
 
 -- ---- phases: "ready; awaiting a cost, with the model value and step norm it was promised on; awaiting derivatives"
 
+-- one of three, by the phase
+abbrev pub by-phase : {A : Type 0} → (ready : A) → (cost : (value norm : Float) → A) → (derivatives : A) → Phase → A
+by-phase ready cost derivatives Ready = ready
+by-phase ready cost derivatives (AwaitingCost value norm) = cost value norm
+by-phase ready cost derivatives AwaitingDerivatives = derivatives
+
 abbrev pub is-ready : Phase → Bool
-is-ready Ready = true
-is-ready (AwaitingCost value norm) = false
-is-ready AwaitingDerivatives = false
+is-ready = by-phase true (λ value norm. false) false
 
 abbrev pub awaits-cost : Phase → Bool
-awaits-cost Ready = false
-awaits-cost (AwaitingCost value norm) = true
-awaits-cost AwaitingDerivatives = false
+awaits-cost = by-phase false (λ value norm. true) false
 
 abbrev pub awaits-derivatives : Phase → Bool
-awaits-derivatives Ready = false
-awaits-derivatives (AwaitingCost value norm) = false
-awaits-derivatives AwaitingDerivatives = true
+awaits-derivatives = by-phase false (λ value norm. false) true
 
 -- the model value m, or SR1's "P .. kept in place of m"
 pub record Promise : Type 0 where
@@ -53,9 +53,7 @@ pub record Promise : Type 0 where
 
 -- what a session that awaits a cost was promised on; any other is out of turn
 abbrev pub promised : Phase → Answer Promise
-promised Ready = refused Turn
-promised (AwaitingCost value norm) = given (record { value = value; norm = norm })
-promised AwaitingDerivatives = refused Turn
+promised = by-phase (refused Turn) (λ value norm. given (record { value = value; norm = norm })) (refused Turn)
 
 -- ---- what a call says
 

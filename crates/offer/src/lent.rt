@@ -3,36 +3,33 @@ use vectors::refusal;
 use vectors::vector;
 ghost use mathlib.Core.Path.{_≡_};
 ghost use mathlib.Core.Bool.{_&&_};
-ghost use mathlib.Core.List.{[], _∷_};
-ghost use Prim.Native.Nat.{_*_};
-ghost use lib.Dec.{eqb};
 ghost use Rattle.vectors.specs.Vector.{all-finite};
-ghost use Rattle.vectors.specs.Refusal.{all-hold, size, room};
+ghost use Rattle.offer.specs.Offer.{all-sized};
 ghost use Rattle.offer.specs.Calls.{replaced};
 
 // What a proposal is lent.
 pub fn all_sized(
     n: usize,
-    point: usize,
-    gradient: usize,
-    hessian: usize,
-    step: usize,
-    trial: usize,
-    scratch: usize,
+    point: &[f64],
+    gradient: &[f64],
+    hessian: &[f64],
+    step: &[f64],
+    trial: &[f64],
+    scratch: &[f64],
 ) -> bool
-    ensures { λ r. ⌜ r ≡ all-hold (size n ∷ eqb point n ∷ eqb gradient n ∷ eqb hessian (n * n) ∷ eqb step n ∷ eqb trial n ∷ eqb scratch (room n) ∷ []) ⌝ }
+    ensures { λ r. ⌜ r ≡ all-sized n (now (point .entry)) (now (gradient .entry)) (now (hessian .entry)) (now (step .entry)) (now (trial .entry)) (now (scratch .entry)) ⌝ }
 {
     if !refusal::size(n) {
         return false;
     }
     refusal::all_hold(
         &[
-            point == n,
-            gradient == n,
-            hessian == n * n,
-            step == n,
-            trial == n,
-            scratch == 2 * (n * n) + 8 * n,
+            point.len() == n,
+            gradient.len() == n,
+            hessian.len() == n * n,
+            step.len() == n,
+            trial.len() == n,
+            scratch.len() == 2 * (n * n) + 8 * n,
         ],
     )
 }

@@ -6,7 +6,9 @@ pub mod state;
 use kernels::choice;
 use kernels::choice::Choice;
 use kernels::kernel::Stepped;
+use state::State;
 use vectors::refusal::Refusal;
+use vectors::refusal::Verdict;
 use vectors::vector;
 ghost use mathlib.Core.Path.{_≡_};
 ghost use Prim.Native.Nat.{_+_, _≤_};
@@ -19,15 +21,17 @@ ghost use Rattle.offer.specs.Offer.{offer};
 ghost use Rattle.offer.specs.Calls as Calls;
 ghost use Rattle.offer.specs.Calls.{offering, Offers};
 
-// A step p, with its passes, p·g, p·H·p and ‖p‖; or why there is none.
+// What a session that is asked for a step lends of itself: its kernel, its state, and whether refusal 2 finds nothing in it.
+pub struct Asked {
+    pub choice: Choice,
+    pub sound: bool,
+    pub state: State,
+}
+
+// A step p: its passes, p·g, p·H·p and ‖p‖; or why there is none.
 pub enum Offered {
     Refused(Refusal),
-    Step {
-        passes: u64,
-        slope: f64,
-        curvature: f64,
-        norm: f64,
-    },
+    Step(u64, f64, f64, f64),
 }
 
 // What a session keeps of a step.
@@ -38,12 +42,7 @@ fn measured(n: usize, gradient: &[f64], hessian: &[f64], passes: u64, step: &[f6
     let slope = vector::value(vector::dot(n, step, gradient));
     let curvature = vector::value(vector::weighted_dot(n, step, hessian, step));
     let norm = vector::value(vector::norm(n, step));
-    Offered::Step {
-        passes: passes,
-        slope: slope,
-        curvature: curvature,
-        norm: norm,
-    }
+    Offered::Step(passes, slope, curvature, norm)
 }
 
 // The step stands at the start of the scratch, in slot 0; the trial is laid beside it, since nothing may be written that is still refused.
@@ -85,12 +84,11 @@ fn hand_out(
 }
 
 // The kernel that is chosen is run, and its step and the trial are written, unless a refusal is due. A door for sessions
-// that have looked, and public for the same reason as `lay_unchecked`, which it calls: n, all lengths, whether the radius
-// is zero and the kernel's number are asked here, and no other radius, epsilon, limit or entry.
+// that have looked, and public for the same reason as `lay_unchecked`, which it calls: refusal 2 is what the session says
+// of itself, and beside it only the kernel's number is asked.
 pub fn make_unchecked(
-    choice: Choice,
+    asked: Asked,
     n: usize,
-    radius: f64,
     point: &[f64],
     gradient: &[f64],
     hessian: &[f64],
@@ -99,28 +97,25 @@ pub fn make_unchecked(
     scratch: &mut [f64],
 ) -> Offered
     ensures { λ r. ⌜ Offers n (now (gradient .entry)) (now (hessian .entry))
-        (offering choice n radius (now (point .entry)) (now (gradient .entry)) (now (hessian .entry)) (now (step .entry)) (now (trial .entry)) (now (scratch .entry)))
+        (offering asked n (now (point .entry)) (now (gradient .entry)) (now (hessian .entry)) (now (step .entry)) (now (trial .entry)) (now (scratch .entry)))
         r (now (step .entry)) (now (trial .entry)) (now (scratch .entry)) (now (step .exit)) (now (trial .exit)) (now (scratch .exit)) ⌝ }
 {
-    if !lent::all_sized(
-        n,
-        point.len(),
-        gradient.len(),
-        hessian.len(),
-        step.len(),
-        trial.len(),
-        scratch.len(),
-    ) {
-        return Offered::Refused(Refusal::Size);
-    }
-    if radius == 0.0 {
-        return Offered::Refused(Refusal::Radius);
-    }
-    let laid = choice::lay_unchecked(choice, n, radius, gradient, hessian, scratch);
-    match laid {
-        Stepped::Refused(r) => Offered::Refused(r),
-        Stepped::In(passes) => {
-            hand_out(n, passes, point, gradient, hessian, step, trial, scratch)
+    let choice = asked.choice;
+    let state = asked.state;
+    let checks = range::proposal(asked, n, point, gradient, hessian, step, trial, scratch);
+    match checks {
+        Verdict::Failed(r) => Offered::Refused(r),
+        Verdict::Passed => {
+            if state.radius == 0.0 {
+                return Offered::Refused(Refusal::Radius);
+            }
+            let laid = choice::lay_unchecked(choice, n, state.radius, gradient, hessian, scratch);
+            match laid {
+                Stepped::Refused(r) => Offered::Refused(r),
+                Stepped::In(passes) => {
+                    hand_out(n, passes, point, gradient, hessian, step, trial, scratch)
+                }
+            }
         }
     }
 }

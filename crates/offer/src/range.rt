@@ -1,10 +1,13 @@
 // What both sessions check: a trial's cost, and refusals 1 to 4.
+use crate::Asked;
 use crate::lent;
+use crate::state;
 use vectors::refusal::Refusal;
 use vectors::refusal::Verdict;
 ghost use mathlib.Core.Path.{_≡_};
 ghost use Rattle.vectors.specs.Refusal.{judged};
 ghost use Rattle.offer.specs.Offer as Offer;
+ghost use Rattle.offer.specs.Offer.{proposal-checks};
 ghost use Rattle.offer.specs.Calls as Calls;
 
 // A hidden marker's cost is a NaN: that is an answer, an infinity is none.
@@ -36,11 +39,10 @@ pub fn verdict(sized: bool, sound: bool, in_turn: bool, finite: bool) -> Verdict
     Verdict::Passed
 }
 
-// What a proposal is checked for first, where the session tells whether it is sound and ready.
+// Those of a proposal.
 pub fn proposal(
+    asked: Asked,
     n: usize,
-    sound: bool,
-    ready: bool,
     point: &[f64],
     gradient: &[f64],
     hessian: &[f64],
@@ -48,17 +50,12 @@ pub fn proposal(
     trial: &[f64],
     scratch: &[f64],
 ) -> Verdict
-    ensures { λ r. ⌜ r ≡ judged (Calls.proposal-checks n sound ready (now (point .entry)) (now (gradient .entry)) (now (hessian .entry)) (now (step .entry)) (now (trial .entry)) (now (scratch .entry))) ⌝ }
+    ensures { λ r. ⌜ r ≡ judged (proposal-checks (asked .sound) (asked .state) n (now (point .entry)) (now (gradient .entry)) (now (hessian .entry)) (now (step .entry)) (now (trial .entry)) (now (scratch .entry))) ⌝ }
 {
-    let sized = lent::all_sized(
-        n,
-        point.len(),
-        gradient.len(),
-        hessian.len(),
-        step.len(),
-        trial.len(),
-        scratch.len(),
-    );
+    let state = asked.state;
+    let phase = state.phase;
+    let sized = lent::all_sized(n, point, gradient, hessian, step, trial, scratch);
+    let ready = state::is_ready(phase);
     let finite = lent::inputs_finite(point, gradient, hessian);
-    verdict(sized, sound, ready, finite)
+    verdict(sized, asked.sound, ready, finite)
 }

@@ -6,12 +6,11 @@ use Prim.Native.Nat.{ℕ, zero, suc, _≤_}
 use native.Mathlib.Omega.{arith}
 use lib.ListN.{length}
 use lib.Ieee.{Float, lt}
-use lib.Ieee.Bits.{is-true}
 use borrow.Author.Tests.{eqb-true}
 use Rattle.float.specs.Numbers.{finite, magnitude}
 use Rattle.float.proofs.Commute.{mul-commutes}
 use Rattle.vectors.specs.Vector.{zeros, dot-to, dot, all-finite}
-use Rattle.vectors.specs.Refusal.{Answer, refused, given, Check, _if_, then, judged, all-hold, sized, Square}
+use Rattle.vectors.specs.Refusal.{Answer, refused, given, Check, _if_, unless, then, judged, all-hold, sized, Square}
 use Rattle.kernels.specs.Choice as Choice
 use Rattle.vectors.specs.declared.refusal.Refusal.{Refusal}
 use Rattle.vectors.specs.declared.refusal.Refusal.the-variants.{Size, Setting, Turn, Entry, Range}
@@ -20,15 +19,16 @@ use Rattle.vectors.specs.declared.refusal.Verdict.the-variants.{Passed, Failed}
 use Rattle.vectors.proofs.Sizes.{Each, each-holds}
 use Rattle.kernels.proofs.Choices.{in-range-known}
 use Rattle.kernels.proofs.Kernels.{unless-passed, unless-failed, early, first-passed}
-use Rattle.offer.specs.Offer.{all-sized, cost-taken, start-checks, Offer, stepping}
+use Rattle.offer.specs.Offer.{all-sized, cost-taken, start-checks, proposal-checks, Offer, stepping}
 use Rattle.offer.specs.State.{begin, moved, steady, Promise, promised}
 use Rattle.offer.specs.Calls.{replaced, offering, Offers}
+use Rattle.offer.specs.declared.Asked.{Asked}
 use Rattle.offer.specs.declared.Offered.{Offered}
-use Rattle.offer.proofs.Checks.{passed-none, not-not}
+use Rattle.offer.proofs.Checks.{then-unless}
 use Rattle.offer.proofs.Lengths.{Lent, lent-true, copied}
-use Rattle.offer.proofs.Offers.{offers-kernel}
+use Rattle.offer.proofs.Offers.{offers-kernel, offered-elim}
 use Rattle.sr1.specs.Settings.{ranges, in-range, chosen}
-use Rattle.sr1.specs.Session.{sound, turned, started, start, Proposal, converged, done, predicted-fall, awaiting, proposal-checks, proposal, fall-ratio, next-radius, updated, settled, verdict, judge, judgement-checks, judgement}
+use Rattle.sr1.specs.Session.{sound, turned, start, Proposal, converged, done, predicted-fall, awaiting, proposal, fall-ratio, next-radius, updated, settled, verdict, judge, judgement-checks, judgement}
 use Rattle.sr1.specs.Calls as Calls
 use Rattle.sr1.specs.Calls.{saying, after-offer, Proposes, Updates, Judges}
 use Rattle.sr1.specs.declared.settings.Settings.{Settings}
@@ -44,11 +44,11 @@ use Rattle.sr1.specs.declared.session.After.{After}
 module _ (t : Settings) (f : Float) (v : Verdict) (judges : v ≡ judged (start-checks (in-range t) f)) where
   pub starts-not : (r : Refusal) → v ≡ Failed r → begun.Refused r ≡ Calls.begun (start t f)
   unfolding start
-  starts-not r e = rw (unless-failed (start-checks (in-range t) f) (given (started t (magnitude (t .radius)) f)) r (sym judges ∙ e))
+  starts-not r e = rw (unless-failed (start-checks (in-range t) f) _ r (sym judges ∙ e))
 
   pub starts : v ≡ Passed → (radius : Float) → radius ≡ magnitude (t .radius) → (state : State) → state ≡ begin radius f → begun.Started (record { settings = t; state = state }) ≡ Calls.begun (start t f)
   unfolding start
-  starts e radius m state is = rw (is, m, unless-passed (start-checks (in-range t) f) (given (started t (magnitude (t .radius)) f)) (sym judges ∙ e))
+  starts e radius m state is = rw (is, m, unless-passed (start-checks (in-range t) f) _ (sym judges ∙ e))
 
 -- ---- the proposal
 
@@ -69,59 +69,63 @@ dot-commutes : (a b : List Float) → length a ≡ length b → dot a b ≡ dot 
 unfolding dot
 dot-commutes a b e = rw e (dot-to-commutes a b (length b))
 
--- v is the code's verdict on the checks; `after` is what it returns, or the session of that
-module _ (s : Session) (n : ℕ) (point gradient hessian step trial scratch : List Float) (v : Verdict) (judges : v ≡ judged (proposal-checks s n point gradient hessian step trial scratch)) where
+-- what a session lends of itself
+abbrev pub asking : Session → Asked
+asking s = record { choice = s .settings .choice; sound = sound s; state = s .state }
+
+-- `after` is what the code returns, or the session of that
+module _ (s : Session) (n : ℕ) (point gradient hessian step trial scratch : List Float) (b : Bool) (is-done : b ≡ converged s gradient) where
   abbrev checks : List Check
-  checks = proposal-checks s n point gradient hessian step trial scratch
+  checks = proposal-checks (sound s) (s .state) n point gradient hessian step trial scratch
 
   abbrev keeping : Answer Offer → Answer Proposal
   keeping = then (λ (o : Offer). given (awaiting s n gradient hessian o))
 
-  abbrev proposes : Answer Proposal → After → (step′ trial′ scratch′ : List Float) → Type 0
-  proposes a = Proposes a s step trial scratch
-
   -- unless it is done
   abbrev going-on : Bool → Answer Proposal
-  going-on b = cond b (given (done s step trial)) (keeping (stepping (chosen (s .settings)) n (s .state .radius) point gradient hessian))
+  going-on t = cond t (given (done s step trial)) (keeping (stepping (chosen (s .settings)) n (s .state .radius) point gradient hessian))
 
-  pub proposes-not : (r : Refusal) → v ≡ Failed r → (after : After) → after ≡ saying s (Refused r) → proposes (proposal chosen s n point gradient hessian step trial scratch) after step trial scratch
+  abbrev proposes : After → (step′ trial′ scratch′ : List Float) → Type 0
+  proposes = Proposes (proposal chosen s n point gradient hessian step trial scratch) s step trial scratch
+
+  on-done : proposal chosen s n point gradient hessian step trial scratch ≡ unless checks (going-on b)
   unfolding proposal
-  proposes-not r e after is =
-      rw (unless-failed checks (going-on (converged s gradient)) r (sym judges ∙ e))
-      (record { says = is; leaves-step = refl; leaves-trial = refl; leaves-scratch = rw (early checks r (refl, (refl, (refl, (refl, tt)))) (sym judges ∙ e)) })
+  on-done = rw is-done
 
-  module _ (e : v ≡ Passed) (b : Bool) (is-done : b ≡ converged s gradient) where
-    on-checks : proposal chosen s n point gradient hessian step trial scratch ≡ going-on b
-    unfolding proposal
-    on-checks = unless-passed checks (going-on (converged s gradient)) (sym judges ∙ e) ∙ rw is-done
+  -- v is the code's verdict on the checks
+  module _ (t : b ≡ true) (v : Verdict) (judges : v ≡ judged checks) where
+    pub proposes-not : (r : Refusal) → v ≡ Failed r → (after : After) → after ≡ saying s (Refused r) → proposes after step trial scratch
+    proposes-not r e after is =
+        rw (on-done, unless-failed checks (going-on b) r (sym judges ∙ e))
+        (record { says = is; leaves-step = refl; leaves-trial = refl; leaves-scratch = rw (early checks r (refl, (refl, (refl, (refl, tt)))) (sym judges ∙ e)) })
 
-    pub proposes-done : b ≡ true → (scratch′ : List Float) → scratch′ ≡ zeros (length scratch)
-        → proposes (proposal chosen s n point gradient hessian step trial scratch) (record { session = s; outcome = Done }) step trial scratch′
-    proposes-done t scratch′ z = rw (on-checks, t) (record { says = refl; leaves-step = refl; leaves-trial = refl; leaves-scratch = z })
+    pub proposes-done : v ≡ Passed → (scratch′ : List Float) → scratch′ ≡ zeros (length scratch) → proposes (record { session = s; outcome = Done }) step trial scratch′
+    proposes-done e scratch′ z = rw (on-done, unless-passed checks (going-on b) (sym judges ∙ e), t) (record { says = refl; leaves-step = refl; leaves-trial = refl; leaves-scratch = z })
 
-    module _ (t : b ≡ false) (found : Offered) (step′ trial′ scratch′ : List Float)
-        (offers : Offers n gradient hessian (offering (s .settings .choice) n (s .state .radius) point gradient hessian step trial scratch)
-        found step trial scratch step′ trial′ scratch′) (long : length step′ ≡ length step) where
-      sizes : all-sized n point gradient hessian step trial scratch ≡ true
-      sizes = is-true _ (not-not (all-sized n point gradient hessian step trial scratch) (passed-none checks (sym judges ∙ e) .0))
+  module _ (t : b ≡ false) (found : Offered) (step′ trial′ scratch′ : List Float) (long : length step′ ≡ length step) where
+    -- the session's proposal follows what was offered
+    follows : proposal chosen s n point gradient hessian step trial scratch ≡ keeping (offering (asking s) n point gradient hessian step trial scratch)
+    follows =
+        on-done ∙ rw t
+        (sym (ap keeping (offers-kernel (asking s) n point gradient hessian step trial scratch (kernel-known s))
+        ∙ then-unless (λ (o : Offer). given (awaiting s n gradient hessian o)) checks (stepping (chosen (s .settings)) n (s .state .radius) point gradient hessian)))
 
-      -- the session's proposal follows what was offered
-      follows : proposal chosen s n point gradient hessian step trial scratch ≡ keeping (offering (s .settings .choice) n (s .state .radius) point gradient hessian step trial scratch)
-      follows =
-          let right : sound s ≡ true = is-true _ (not-not (sound s) (passed-none checks (sym judges ∙ e) .1 .0)) in
-          let kernel = kernel-known s right in
-          on-checks ∙ rw t (ap keeping (sym (offers-kernel (s .settings .choice) n (s .state .radius) point gradient hessian step trial scratch sizes kernel)))
+    module _ (after : After) (is : after ≡ after-offer s found) where
+      abbrev meets : Answer Offer → Type 0
+      meets a = Offers n gradient hessian a found step trial scratch step′ trial′ scratch′ → Proposes (keeping a) s step trial scratch after step′ trial′ scratch′
 
-      pub proposes-offer : (after : After) → after ≡ after-offer s found → proposes (proposal chosen s n point gradient hessian step trial scratch) after step′ trial′ scratch′
+      refuses : (r : Refusal) → meets (refused r)
+      refuses r o = record { says = is ∙ ap (after-offer s) (o .says); leaves-step = o .leaves-step; leaves-trial = o .leaves-trial; leaves-scratch = o .leaves-scratch }
+
+      hands-out : length step ≡ length gradient → (a : Answer Offer) → meets a
       unfolding awaiting predicted-fall
-      proposes-offer after is = rw follows (go (offering (s .settings .choice) n (s .state .radius) point gradient hessian step trial scratch) offers)
-        where
-          go : (a : Answer Offer) → Offers n gradient hessian a found step trial scratch step′ trial′ scratch′ → proposes (keeping a) after step′ trial′ scratch′
-          go (refused r) o = record { says = is ∙ ap (after-offer s) (o .says); leaves-step = o .leaves-step; leaves-trial = o .leaves-trial; leaves-scratch = o .leaves-scratch }
-          go (given x) o =
-              let lent = lent-true n (length point) (length gradient) (length hessian) (length step) (length trial) (length scratch) sizes in
-              let turned = dot-commutes (x .step) gradient (ap length (sym (o .leaves-step)) ∙ long ∙ lent .step ∙ sym (lent .gradient)) in
-              record { says = is ∙ ap (after-offer s) (o .says) ∙ rw turned; leaves-step = o .leaves-step; leaves-trial = o .leaves-trial; leaves-scratch = o .leaves-scratch }
+      hands-out l (refused r) o = refuses r o
+      hands-out l (given x) o =
+          let turned = dot-commutes (x .step) gradient (ap length (sym (o .leaves-step)) ∙ long ∙ l) in
+          record { says = is ∙ ap (after-offer s) (o .says) ∙ rw turned; leaves-step = o .leaves-step; leaves-trial = o .leaves-trial; leaves-scratch = o .leaves-scratch }
+
+      pub proposes-offer : Offers n gradient hessian (offering (asking s) n point gradient hessian step trial scratch) found step trial scratch step′ trial′ scratch′ → proposes after step′ trial′ scratch′
+      proposes-offer offers = rw follows (offered-elim (asking s) n point gradient hessian step trial scratch meets refuses (λ l. hands-out (l .step ∙ sym (l .gradient))) offers)
 
 -- ---- the answer with a cost and a gradient
 

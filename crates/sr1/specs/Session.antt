@@ -9,10 +9,10 @@ use Rattle.float.specs.Constants.{one, two, half, three-quarters, tenth, four-f
 use Rattle.vectors.specs.Vector.{at, tab, flat, dot, norm, row, times, weighted, minus, all-finite}
 use Rattle.vectors.specs.Refusal.{Answer, given, Check, _if_, unless, then, all-hold, size, sized}
 use Rattle.kernels.specs.Kernel.{Kernel}
-use Rattle.vectors.specs.declared.refusal.Refusal.the-variants.{Size, Setting, Turn, Entry, Range}
+use Rattle.vectors.specs.declared.refusal.Refusal.the-variants.{Size, Setting, Entry, Range}
 use Rattle.sr1.specs.Settings.{in-range}
-use Rattle.offer.specs.Offer.{all-sized, cost-taken, start-checks, Offer, offer, stepping}
-use Rattle.offer.specs.State.{begin, moved, in-phase, steady, is-ready, Promise, promised}
+use Rattle.offer.specs.Offer.{all-sized, cost-taken, start-checks, proposal-checks, Offer, offer, stepping}
+use Rattle.offer.specs.State.{begin, moved, in-phase, steady, Promise, promised}
 use Rattle.sr1.specs.declared.settings.Settings.{Settings}
 use Rattle.sr1.specs.declared.session.Session.{Session}
 use Rattle.offer.specs.declared.state.State.{State}
@@ -31,12 +31,9 @@ turned s state = record { settings = s .settings; state = state }
 
 -- ---- start: "takes settings and cost only"; "SR1's radius is taken by magnitude first"
 
-abbrev pub started : Settings → (radius f : Float) → Session
-started settings radius f = record { settings = settings; state = begin radius f }
-
 unfoldable pub start : Settings → Float → Answer Session
 unfolding in-range finite magnitude
-start settings f = unless (start-checks (in-range settings) f) (given (started settings (magnitude (settings .radius)) f))
+start settings f = unless (start-checks (in-range settings) f) (given (record { settings = settings; state = begin (magnitude (settings .radius)) f }))
 
 -- ---- propose
 
@@ -70,19 +67,11 @@ awaiting s n gradient hessian o = record {
   trial = o .trial;
 }
 
-abbrev pub proposal-checks : Session → ℕ → (point gradient hessian step trial scratch : List Float) → List Check
-proposal-checks s n point gradient hessian step trial scratch =
-    (Size if not (all-sized n point gradient hessian step trial scratch))
-    ∷ (Setting if not (sound s))
-    ∷ (Turn if not (is-ready (s .state .phase)))
-    ∷ (Entry if not (all-finite point && all-finite gradient && all-finite hessian))
-    ∷ []
-
 -- done is "tested when a proposal is asked for, after refusals 1 to 4 and before 5"; refusals 5 to 8 are `stepping`'s
 unfoldable pub proposal : (Settings → Kernel) → Session → ℕ → (point gradient hessian step trial scratch : List Float) → Answer Proposal
 unfolding size sound all-finite converged offer awaiting
 proposal kernel s n point gradient hessian step trial scratch =
-    unless (proposal-checks s n point gradient hessian step trial scratch)
+    unless (proposal-checks (sound s) (s .state) n point gradient hessian step trial scratch)
     (cond (converged s gradient) (given (done s step trial))
     (then (λ (o : Offer). given (awaiting s n gradient hessian o)) (stepping (kernel (s .settings)) n (s .state .radius) point gradient hessian)))
 

@@ -6,6 +6,7 @@ use crate::session::Session;
 use crate::session::Start;
 use crate::settings;
 use crate::settings::Settings;
+use offer::Asked;
 use offer::Offered;
 use offer::lent;
 use offer::range;
@@ -69,18 +70,10 @@ fn awaiting(s: Session, offered: Offered) -> After
 {
     match offered {
         Offered::Refused(r) => session::refusing(s, r),
-        Offered::Step {
-            passes,
-            slope,
-            curvature,
-            norm,
-        } => {
+        Offered::Step(passes, slope, curvature, norm) => {
             let predicted = predicted_fall(slope, curvature);
-            session::answering(
-                s,
-                state::in_phase(s.state, Phase::AwaitingCost(predicted, norm)),
-                Outcome::Proposed(passes),
-            )
+            let next = state::in_phase(s.state, Phase::AwaitingCost(predicted, norm));
+            session::answering(s, next, Outcome::Proposed(passes))
         }
     }
 }
@@ -108,74 +101,29 @@ pub fn proposed(
 {
     let choice = s.settings.choice;
     let state = s.state;
-    let phase = state.phase;
-    let sound = session::sound(s);
-    let ready = state::is_ready(phase);
-    let checks = range::proposal(
-        n,
-        sound,
-        ready,
-        point,
-        gradient,
-        hessian,
-        step,
-        trial,
-        scratch,
-    );
-    match checks {
-        Verdict::Failed(r) => session::refusing(s, r),
-        Verdict::Passed => {
-            if converged(s, gradient) {
+    let asked = Asked {
+        choice: choice,
+        sound: session::sound(s),
+        state: state,
+    };
+    if converged(s, gradient) {
+        let checks = range::proposal(asked, n, point, gradient, hessian, step, trial, scratch);
+        match checks {
+            Verdict::Failed(r) => return session::refusing(s, r),
+            Verdict::Passed => {
                 vector::clear(scratch);
                 return After {
                     session: s,
                     outcome: Outcome::Done,
                 };
             }
-            let offered = offer::make_unchecked(
-                choice,
-                n,
-                s.state.radius,
-                point,
-                gradient,
-                hessian,
-                step,
-                trial,
-                scratch,
-            );
-            awaiting(s, offered)
         }
     }
+    let offered = offer::make_unchecked(asked, n, point, gradient, hessian, step, trial, scratch);
+    awaiting(s, offered)
 }
 
 // ---- the answer with a cost and a gradient
-
-fn judgement_checked(
-    s: Session,
-    n: usize,
-    new_gradient: &[f64],
-    point: &[f64],
-    step: &[f64],
-    trial: &[f64],
-    gradient: &[f64],
-    hessian: &[f64],
-    scratch: &[f64],
-) -> Verdict
-    ensures { λ r. ⌜ r ≡ judged (judgement-checks s n (now («new_gradient» .entry)) (now (point .entry)) (now (step .entry)) (now (trial .entry)) (now (gradient .entry)) (now (hessian .entry)) (now (scratch .entry))) ⌝ }
-{
-    let lengths = lent::all_sized(
-        n,
-        point.len(),
-        gradient.len(),
-        hessian.len(),
-        step.len(),
-        trial.len(),
-        scratch.len(),
-    );
-    let sized = refusal::all_hold(&[lengths, new_gradient.len() == n]);
-    let sound = session::sound(s);
-    range::verdict(sized, sound, true, true)
-}
 
 // What refusal 4 asks of an answer.
 fn answered(
@@ -429,17 +377,10 @@ pub fn judged(
 {
     let state = s.state;
     let phase = state.phase;
-    let checks = judgement_checked(
-        s,
-        n,
-        new_gradient,
-        point,
-        step,
-        trial,
-        gradient,
-        hessian,
-        scratch,
-    );
+    let lengths = lent::all_sized(n, point, gradient, hessian, step, trial, scratch);
+    let sized = refusal::all_hold(&[lengths, new_gradient.len() == n]);
+    let sound = session::sound(s);
+    let checks = range::verdict(sized, sound, true, true);
     match checks {
         Verdict::Failed(r) => session::refusing(s, r),
         Verdict::Passed => match phase {

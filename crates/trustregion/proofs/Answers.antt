@@ -8,8 +8,8 @@ use lib.Ieee.{Float}
 use Rattle.vectors.specs.Refusal.{Answer, refused, given, Check, then}
 use Rattle.kernels.specs.Kernel.{Kernel, Made}
 use Rattle.vectors.specs.declared.refusal.Refusal.{Refusal}
-use Rattle.offer.specs.Offer.{all-sized, Offer, offered, offer-checks, offer, step-checks, stepping}
-use Rattle.trustregion.specs.Session.{sound, Proposal, awaiting, proposal-checks, proposal, Judgement, rho, radius-by, settled, answer-checks, verdict-checks, judge, judgement-checks, judgement, Renewal, renewal-checks, renewed-by, renewal}
+use Rattle.offer.specs.Offer.{all-sized, proposal-checks, Offer, offered, offer-checks, offer, step-checks, stepping}
+use Rattle.trustregion.specs.Session.{sound, Proposal, awaiting, proposal, Judgement, rho, radius-by, settled, answer-checks, verdict-checks, judge, judgement-checks, judgement, Renewal, renewal-checks, renewed-by, renewal}
 use Rattle.offer.specs.State.{is-ready, awaits-cost, Promise, promised}
 use Rattle.trustregion.specs.Run.{Station, Request, propose, cost, derivatives, Done, on-proposal, on-judgement, on-renewal, proposal-at, judgement-at, renewal-at, respond}
 use Rattle.trustregion.specs.declared.settings.Settings.{Settings}
@@ -83,7 +83,7 @@ module _ (kernel : Settings → Kernel) (s t : Station) (as-large : sizes s ≡ 
   no-proposal r = refuses r _ _ (scratch-length {A = Proposal} (refused r) (s .lent .scratch)) (scratch-length {A = Proposal} (refused r) (t .lent .scratch))
 
   abbrev lent-checks : Station → ℕ → List Check
-  lent-checks x n = proposal-checks (x .session) n (x .lent .point) (x .lent .gradient) (x .lent .hessian) (x .lent .step) (x .lent .trial) (x .lent .scratch)
+  lent-checks x n = proposal-checks (sound (x .session)) (x .session .state) n (x .lent .point) (x .lent .gradient) (x .lent .hessian) (x .lent .step) (x .lent .trial) (x .lent .scratch)
 
   same-checks : (n : ℕ) → lent-checks s n ≡ lent-checks (joined s t) n
   unfolding sound

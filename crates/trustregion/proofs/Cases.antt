@@ -9,8 +9,9 @@ use Rattle.vectors.specs.Vector.{zeros}
 use Rattle.vectors.specs.Refusal.{Answer, refused, given, number, room}
 use Rattle.kernels.specs.Choice as Choice
 use Rattle.trustregion.specs.Settings.{by-default, chosen}
-use Rattle.trustregion.specs.Session.{started, proposal, next-radius, judgement}
+use Rattle.trustregion.specs.Session.{proposal, next-radius, judgement}
 use Rattle.offer.specs.Run.{Trial, own, others, run, final, calls, lent-same}
+use Rattle.offer.specs.State.{begin}
 use Rattle.trustregion.specs.Run.{Station, Request, propose, cost, derivatives, Call, respond, strike, trials}
 use Rattle.trustregion.specs.declared.session.Session.{Session}
 use Rattle.offer.specs.declared.state.Phase.{Phase}
@@ -33,7 +34,7 @@ far-off = refl
 unfoldable pub station : Station
 unfolding _over_ zeros
 station = record {
-  session = started (by-default 1 5) (5 over 2) (10 over 1);
+  session = record { settings = by-default 1 5; state = begin (5 over 2) (10 over 1) };
   lent = record {
     point = one ∷ one ∷ [];
     gradient = (3 over 1) ∷ (4 over 1) ∷ [];

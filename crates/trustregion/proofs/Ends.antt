@@ -10,7 +10,7 @@ use lib.Ieee.Bits.{is-true}
 use borrow.Author.Tests.{eqb-true}
 use Rattle.float.specs.Numbers.{finite}
 use Rattle.vectors.specs.Vector.{all-finite}
-use Rattle.vectors.specs.Refusal.{Answer, refused, given, Check, _if_, then, judged, all-hold, size, sized}
+use Rattle.vectors.specs.Refusal.{Answer, refused, given, _if_, then, judged, all-hold, size, sized}
 use Rattle.kernels.specs.Choice as Choice
 use Rattle.vectors.specs.declared.refusal.Refusal.{Refusal}
 use Rattle.vectors.specs.declared.refusal.Refusal.the-variants.{Size, Setting, Turn, Entry, Range}
@@ -18,15 +18,16 @@ use Rattle.vectors.specs.declared.refusal.Verdict.{Verdict}
 use Rattle.vectors.specs.declared.refusal.Verdict.the-variants.{Passed, Failed}
 use Rattle.vectors.proofs.Sizes.{each-holds, vectors-true}
 use Rattle.kernels.proofs.Choices.{in-range-known}
-use Rattle.kernels.proofs.Kernels.{unless-passed, unless-failed, early, first-passed}
-use Rattle.offer.specs.Offer.{all-sized, cost-taken, start-checks, Offer, stepping}
+use Rattle.kernels.proofs.Kernels.{unless-passed, unless-failed, first-passed}
+use Rattle.offer.specs.Offer.{cost-taken, start-checks, proposal-checks, Offer, stepping}
 use Rattle.offer.specs.State.{begin, moved, in-phase, steady, Promise, promised}
 use Rattle.offer.specs.Calls.{replaced, offering, Offers}
+use Rattle.offer.specs.declared.Asked.{Asked}
 use Rattle.offer.specs.declared.Offered.{Offered}
 use Rattle.offer.proofs.Lengths.{copied}
 use Rattle.offer.proofs.Offers.{offers-kernel}
 use Rattle.trustregion.specs.Settings.{ranges, in-range, chosen}
-use Rattle.trustregion.specs.Session.{sound, turned, started, start, model-value, Proposal, awaiting, proposal-checks, proposal, rho, radius-by, settled, verdict, judge, judgement-checks, judgement, renewal-checks, renewed-by, renewal}
+use Rattle.trustregion.specs.Session.{sound, turned, start, model-value, Proposal, awaiting, proposal, rho, radius-by, settled, verdict, judge, judgement-checks, judgement, renewal-sized, renewal-checks, renewed-by, renewal}
 use Rattle.trustregion.specs.Calls as Calls
 use Rattle.trustregion.specs.Calls.{saying, after-offer, Proposes, Judges, Renews}
 use Rattle.trustregion.specs.declared.settings.Settings.{Settings}
@@ -36,18 +37,18 @@ use Rattle.offer.specs.declared.state.State.{State}
 use Rattle.offer.specs.declared.state.Phase.the-variants.{Ready, AwaitingDerivatives}
 use Rattle.offer.specs.declared.state.Outcome.the-variants.{Refused, Accepted, Rejected, Taken}
 use Rattle.trustregion.specs.declared.session.After.{After}
-use Rattle.offer.proofs.Checks.{passed-none, not-not}
+use Rattle.offer.proofs.Checks.{passed-none, then-unless, not-not}
 
 -- ---- the start
 
 module _ (t : Settings) (f : Float) (v : Verdict) (judges : v ≡ judged (start-checks (in-range t) f)) where
   pub starts-not : (r : Refusal) → v ≡ Failed r → begun.Refused r ≡ Calls.begun (start t f)
   unfolding start
-  starts-not r e = rw (unless-failed (start-checks (in-range t) f) (given (started t (t .radius) f)) r (sym judges ∙ e))
+  starts-not r e = rw (unless-failed (start-checks (in-range t) f) _ r (sym judges ∙ e))
 
   pub starts : v ≡ Passed → (state : State) → state ≡ begin (t .radius) f → begun.Started (record { settings = t; state = state }) ≡ Calls.begun (start t f)
   unfolding start
-  starts e state is = rw (is, unless-passed (start-checks (in-range t) f) (given (started t (t .radius) f)) (sym judges ∙ e))
+  starts e state is = rw (is, unless-passed (start-checks (in-range t) f) _ (sym judges ∙ e))
 
 -- ---- the proposal
 
@@ -58,44 +59,31 @@ kernel-known s e =
     let ranged = each-holds (in-range (s .settings) ∷ steady (s .state) ∷ []) e .0 in
     in-range-known (s .settings .choice) (each-holds (ranges (s .settings)) ranged .0)
 
--- v is the code's verdict on the checks; `after` is what it returns, or the session of that
-module _ (s : Session) (n : ℕ) (point gradient hessian step trial scratch : List Float) (v : Verdict) (judges : v ≡ judged (proposal-checks s n point gradient hessian step trial scratch)) where
-  abbrev checks : List Check
-  checks = proposal-checks s n point gradient hessian step trial scratch
+-- what a session lends of itself
+abbrev pub asking : Session → Asked
+asking s = record { choice = s .settings .choice; sound = sound s; state = s .state }
 
+-- `after` is what the code returns, or the session of that
+module _ (s : Session) (n : ℕ) (point gradient hessian step trial scratch : List Float) where
   abbrev keeping : Answer Offer → Answer Proposal
   keeping = then (λ (o : Offer). given (awaiting s n gradient hessian o))
 
-  abbrev proposes : Answer Proposal → After → (step′ trial′ scratch′ : List Float) → Type 0
-  proposes a = Proposes a s step trial scratch
-
-  pub proposes-not : (r : Refusal) → v ≡ Failed r → (after : After) → after ≡ saying s (Refused r) → proposes (proposal chosen s n point gradient hessian step trial scratch) after step trial scratch
+  -- the session's proposal follows what was offered
+  follows : proposal chosen s n point gradient hessian step trial scratch ≡ keeping (offering (asking s) n point gradient hessian step trial scratch)
   unfolding proposal
-  proposes-not r e after is =
-      rw (unless-failed checks (keeping (stepping (chosen (s .settings)) n (s .state .radius) point gradient hessian)) r (sym judges ∙ e))
-      (record { says = is; leaves-step = refl; leaves-trial = refl; leaves-scratch = rw (early checks r (refl, (refl, (refl, (refl, tt)))) (sym judges ∙ e)) })
+  follows =
+      sym (ap keeping (offers-kernel (asking s) n point gradient hessian step trial scratch (kernel-known s))
+      ∙ then-unless (λ (o : Offer). given (awaiting s n gradient hessian o)) (proposal-checks (sound s) (s .state) n point gradient hessian step trial scratch)
+      (stepping (chosen (s .settings)) n (s .state .radius) point gradient hessian))
 
-  module _ (e : v ≡ Passed) (found : Offered) (step′ trial′ scratch′ : List Float)
-      (offers : Offers n gradient hessian (offering (s .settings .choice) n (s .state .radius) point gradient hessian step trial scratch)
-      found step trial scratch step′ trial′ scratch′) where
-    -- the session's proposal follows what was offered
-    follows : proposal chosen s n point gradient hessian step trial scratch ≡ keeping (offering (s .settings .choice) n (s .state .radius) point gradient hessian step trial scratch)
-    unfolding proposal
-    follows =
-        let none = passed-none checks (sym judges ∙ e) in
-        let sizes : all-sized n point gradient hessian step trial scratch ≡ true = is-true _ (not-not (all-sized n point gradient hessian step trial scratch) (none .0)) in
-        let right : sound s ≡ true = is-true _ (not-not (sound s) (none .1 .0)) in
-        let kernel = kernel-known s right in
-        unless-passed checks (keeping (stepping (chosen (s .settings)) n (s .state .radius) point gradient hessian)) (sym judges ∙ e)
-        ∙ ap keeping (sym (offers-kernel (s .settings .choice) n (s .state .radius) point gradient hessian step trial scratch sizes kernel))
-
-    pub proposes-offer : (after : After) → after ≡ after-offer s found → proposes (proposal chosen s n point gradient hessian step trial scratch) after step′ trial′ scratch′
-    unfolding awaiting model-value
-    proposes-offer after is = rw follows (go (offering (s .settings .choice) n (s .state .radius) point gradient hessian step trial scratch) offers)
-      where
-        go : (a : Answer Offer) → Offers n gradient hessian a found step trial scratch step′ trial′ scratch′ → proposes (keeping a) after step′ trial′ scratch′
-        go (refused r) o = record { says = is ∙ ap (after-offer s) (o .says); leaves-step = o .leaves-step; leaves-trial = o .leaves-trial; leaves-scratch = o .leaves-scratch }
-        go (given x) o = record { says = is ∙ ap (after-offer s) (o .says); leaves-step = o .leaves-step; leaves-trial = o .leaves-trial; leaves-scratch = o .leaves-scratch }
+  pub proposes-offer : (found : Offered) (step′ trial′ scratch′ : List Float) → Offers n gradient hessian (offering (asking s) n point gradient hessian step trial scratch) found step trial scratch step′ trial′ scratch′
+      → (after : After) → after ≡ after-offer s found → Proposes (proposal chosen s n point gradient hessian step trial scratch) s step trial scratch after step′ trial′ scratch′
+  unfolding awaiting model-value
+  proposes-offer found step′ trial′ scratch′ offers after is = rw follows (go (offering (asking s) n point gradient hessian step trial scratch) offers)
+    where
+      go : (a : Answer Offer) → Offers n gradient hessian a found step trial scratch step′ trial′ scratch′ → Proposes (keeping a) s step trial scratch after step′ trial′ scratch′
+      go (refused r) o = record { says = is ∙ ap (after-offer s) (o .says); leaves-step = o .leaves-step; leaves-trial = o .leaves-trial; leaves-scratch = o .leaves-scratch }
+      go (given x) o = record { says = is ∙ ap (after-offer s) (o .says); leaves-step = o .leaves-step; leaves-trial = o .leaves-trial; leaves-scratch = o .leaves-scratch }
 
 -- ---- the answer with a cost
 
@@ -174,7 +162,7 @@ module _ (s : Session) (n : ℕ) (new-gradient new-hessian gradient hessian : Li
       → (state : State) → state ≡ in-phase Ready (s .state) → (r : After) → r ≡ saying (turned s state) Taken → Renews (renewal s n new-gradient new-hessian gradient hessian) s gradient hessian r gradient′ hessian′
   unfolding renewal
   renews e gradient′ hessian′ g h state t r is =
-      let sizes = is-true _ (not-not (all-hold (size n ∷ sized n new-gradient ∷ sized (n * n) new-hessian ∷ sized n gradient ∷ sized (n * n) hessian ∷ [])) (passed-none (renewal-checks s n new-gradient new-hessian gradient hessian) (sym judges ∙ e) .0)) in
+      let sizes = is-true _ (not-not (renewal-sized n new-gradient new-hessian gradient hessian) (passed-none (renewal-checks s n new-gradient new-hessian gradient hessian) (sym judges ∙ e) .0)) in
       let l = renewal-lengths n (length new-gradient) (length new-hessian) (length gradient) (length hessian) sizes in
       rw (unless-passed (renewal-checks s n new-gradient new-hessian gradient hessian) (given (renewed-by s new-gradient new-hessian)) (sym judges ∙ e))
       (record { says = is ∙ ap (λ (x : State). saying (turned s x) Taken) t; leaves-gradient = g ∙ copied new-gradient gradient (l .0); leaves-hessian = h ∙ copied new-hessian hessian (l .1) })

@@ -12,8 +12,8 @@ use Rattle.kernels.specs.Kernel.{Kernel}
 use Rattle.kernels.specs.Ratio.{reduction-ratio}
 use Rattle.vectors.specs.declared.refusal.Refusal.the-variants.{Size, Setting, Turn, Entry, Range}
 use Rattle.trustregion.specs.Settings.{in-range}
-use Rattle.offer.specs.Offer.{all-sized, cost-taken, start-checks, Offer, offer, stepping}
-use Rattle.offer.specs.State.{begin, moved, in-phase, steady, is-ready, awaits-derivatives, Promise, promised}
+use Rattle.offer.specs.Offer.{cost-taken, start-checks, proposal-checks, Offer, offer, stepping}
+use Rattle.offer.specs.State.{begin, moved, in-phase, steady, awaits-derivatives, Promise, promised}
 use Rattle.trustregion.specs.declared.settings.Settings.{Settings}
 use Rattle.trustregion.specs.declared.session.Session.{Session}
 use Rattle.offer.specs.declared.state.State.{State}
@@ -30,12 +30,9 @@ turned s state = record { settings = s .settings; state = state }
 
 -- ---- start: "takes settings and cost only"
 
-abbrev pub started : Settings → (radius f : Float) → Session
-started settings radius f = record { settings = settings; state = begin radius f }
-
 unfoldable pub start : Settings → Float → Answer Session
 unfolding in-range finite
-start settings f = unless (start-checks (in-range settings) f) (given (started settings (settings .radius) f))
+start settings f = unless (start-checks (in-range settings) f) (given (record { settings = settings; state = begin (settings .radius) f }))
 
 -- ---- propose
 
@@ -56,19 +53,11 @@ awaiting s n gradient hessian o = record {
   offer = o;
 }
 
-abbrev pub proposal-checks : Session → ℕ → (point gradient hessian step trial scratch : List Float) → List Check
-proposal-checks s n point gradient hessian step trial scratch =
-    (Size if not (all-sized n point gradient hessian step trial scratch))
-    ∷ (Setting if not (sound s))
-    ∷ (Turn if not (is-ready (s .state .phase)))
-    ∷ (Entry if not (all-finite point && all-finite gradient && all-finite hessian))
-    ∷ []
-
--- refusals 5 to 8 are `stepping`'s
+-- refusals 1 to 4, and then those of `stepping`, 5 to 8
 unfoldable pub proposal : (Settings → Kernel) → Session → ℕ → (point gradient hessian step trial scratch : List Float) → Answer Proposal
 unfolding size sound all-finite offer awaiting
 proposal kernel s n point gradient hessian step trial scratch =
-    unless (proposal-checks s n point gradient hessian step trial scratch)
+    unless (proposal-checks (sound s) (s .state) n point gradient hessian step trial scratch)
     (then (λ (o : Offer). given (awaiting s n gradient hessian o)) (stepping (kernel (s .settings)) n (s .state .radius) point gradient hessian))
 
 -- ---- the answer with a cost F
@@ -141,9 +130,12 @@ pub record Renewal : Type 0 where
   pub gradient : List Float
   pub hessian : List Float
 
+abbrev pub renewal-sized : ℕ → (new-gradient new-hessian gradient hessian : List Float) → Bool
+renewal-sized n new-gradient new-hessian gradient hessian = all-hold (size n ∷ sized n new-gradient ∷ sized (n * n) new-hessian ∷ sized n gradient ∷ sized (n * n) hessian ∷ [])
+
 abbrev pub renewal-checks : Session → ℕ → (new-gradient new-hessian gradient hessian : List Float) → List Check
 renewal-checks s n new-gradient new-hessian gradient hessian =
-    (Size if not (all-hold (size n ∷ sized n new-gradient ∷ sized (n * n) new-hessian ∷ sized n gradient ∷ sized (n * n) hessian ∷ [])))
+    (Size if not (renewal-sized n new-gradient new-hessian gradient hessian))
     ∷ (Setting if not (sound s))
     ∷ (Turn if not (awaits-derivatives (s .state .phase)))
     ∷ (Entry if not (all-finite new-gradient && all-finite new-hessian))

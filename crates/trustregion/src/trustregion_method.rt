@@ -6,6 +6,7 @@ use crate::session::Session;
 use crate::session::Start;
 use crate::settings;
 use crate::settings::Settings;
+use offer::Asked;
 use offer::Offered;
 use offer::lent;
 use offer::range;
@@ -18,18 +19,14 @@ use vectors::refusal::Verdict;
 use vectors::vector;
 ghost use mathlib.Core.Path.{_≡_};
 ghost use mathlib.Core.Bool.{_&&_};
-ghost use mathlib.Core.List.{[], _∷_};
-ghost use Prim.Native.Nat.{_*_};
-ghost use lib.Dec.{eqb};
 ghost use lib.ListN.{length};
 ghost use Rattle.float.specs.Numbers.{_⊕_, _⊗_};
 ghost use Rattle.float.specs.Constants.{half};
 ghost use Rattle.vectors.specs.Vector.{all-finite};
-ghost use Rattle.vectors.specs.Refusal.{judged, all-hold, size};
 ghost use Rattle.offer.specs.Offer.{cost-taken};
 ghost use Rattle.trustregion.specs.Settings.{chosen};
 ghost use Rattle.trustregion.specs.Session as Definition;
-ghost use Rattle.trustregion.specs.Session.{proposal, judgement-checks, judgement, renewal-checks, renewal, next-radius};
+ghost use Rattle.trustregion.specs.Session.{proposal, judgement, renewal-sized, renewal, next-radius};
 ghost use Rattle.trustregion.specs.Calls.{begun, after-offer, Proposes, Judges, Renews};
 
 // 10·2^-52, which argmin writes as ten epsilons.
@@ -67,18 +64,10 @@ fn awaiting(s: Session, offered: Offered) -> After
 {
     match offered {
         Offered::Refused(r) => session::refusing(s, r),
-        Offered::Step {
-            passes,
-            slope,
-            curvature,
-            norm,
-        } => {
+        Offered::Step(passes, slope, curvature, norm) => {
             let model = model_value(s.state.cost, slope, curvature);
-            session::answering(
-                s,
-                state::in_phase(s.state, Phase::AwaitingCost(model, norm)),
-                Outcome::Proposed(passes),
-            )
+            let next = state::in_phase(s.state, Phase::AwaitingCost(model, norm));
+            session::answering(s, next, Outcome::Proposed(passes))
         }
     }
 }
@@ -99,48 +88,16 @@ pub fn proposed(
 {
     let choice = s.settings.choice;
     let state = s.state;
-    let phase = state.phase;
-    let sound = session::sound(s);
-    let ready = state::is_ready(phase);
-    let checks = range::proposal(
-        n,
-        sound,
-        ready,
-        point,
-        gradient,
-        hessian,
-        step,
-        trial,
-        scratch,
-    );
-    match checks {
-        Verdict::Failed(r) => session::refusing(s, r),
-        Verdict::Passed => {
-            let offered = offer::make_unchecked(
-                choice,
-                n,
-                s.state.radius,
-                point,
-                gradient,
-                hessian,
-                step,
-                trial,
-                scratch,
-            );
-            awaiting(s, offered)
-        }
-    }
+    let asked = Asked {
+        choice: choice,
+        sound: session::sound(s),
+        state: state,
+    };
+    let offered = offer::make_unchecked(asked, n, point, gradient, hessian, step, trial, scratch);
+    awaiting(s, offered)
 }
 
 // ---- the answer with a cost
-
-fn judgement_checked(s: Session, n: usize, point: &[f64], trial: &[f64]) -> Verdict
-    ensures { λ r. ⌜ r ≡ judged (judgement-checks s n (now (point .entry)) (now (trial .entry))) ⌝ }
-{
-    let sized = refusal::vectors(n, point.len(), trial.len());
-    let sound = session::sound(s);
-    range::verdict(sized, sound, true, true)
-}
 
 // What refusal 4 asks of an answer.
 fn answered(cost: f64, trial: &[f64]) -> bool
@@ -200,7 +157,9 @@ pub fn judged(s: Session, n: usize, cost: f64, point: &mut [f64], trial: &[f64])
 {
     let state = s.state;
     let phase = state.phase;
-    let checks = judgement_checked(s, n, point, trial);
+    let sized = refusal::vectors(n, point.len(), trial.len());
+    let sound = session::sound(s);
+    let checks = range::verdict(sized, sound, true, true);
     match checks {
         Verdict::Failed(r) => session::refusing(s, r),
         Verdict::Passed => match phase {
@@ -215,49 +174,24 @@ pub fn judged(s: Session, n: usize, cost: f64, point: &mut [f64], trial: &[f64])
 
 fn renewal_sized(
     n: usize,
-    new_gradient: usize,
-    new_hessian: usize,
-    gradient: usize,
-    hessian: usize,
+    new_gradient: &[f64],
+    new_hessian: &[f64],
+    gradient: &[f64],
+    hessian: &[f64],
 ) -> bool
-    ensures { λ r. ⌜ r ≡ all-hold (size n ∷ eqb «new_gradient» n ∷ eqb «new_hessian» (n * n) ∷ eqb gradient n ∷ eqb hessian (n * n) ∷ []) ⌝ }
+    ensures { λ r. ⌜ r ≡ renewal-sized n (now («new_gradient» .entry)) (now («new_hessian» .entry)) (now (gradient .entry)) (now (hessian .entry)) ⌝ }
 {
     if !refusal::size(n) {
         return false;
     }
     refusal::all_hold(
         &[
-            new_gradient == n,
-            new_hessian == n * n,
-            gradient == n,
-            hessian == n * n,
+            new_gradient.len() == n,
+            new_hessian.len() == n * n,
+            gradient.len() == n,
+            hessian.len() == n * n,
         ],
     )
-}
-
-fn renewal_checked(
-    s: Session,
-    n: usize,
-    new_gradient: &[f64],
-    new_hessian: &[f64],
-    gradient: &[f64],
-    hessian: &[f64],
-) -> Verdict
-    ensures { λ r. ⌜ r ≡ judged (renewal-checks s n (now («new_gradient» .entry)) (now («new_hessian» .entry)) (now (gradient .entry)) (now (hessian .entry))) ⌝ }
-{
-    let state = s.state;
-    let phase = state.phase;
-    let sized = renewal_sized(
-        n,
-        new_gradient.len(),
-        new_hessian.len(),
-        gradient.len(),
-        hessian.len(),
-    );
-    let sound = session::sound(s);
-    let in_turn = state::awaits_derivatives(phase);
-    let finite = vector::both_finite(new_gradient, new_hessian);
-    range::verdict(sized, sound, in_turn, finite)
 }
 
 pub fn renewed(
@@ -271,7 +205,13 @@ pub fn renewed(
     ensures { λ r. ⌜ Renews (renewal s n (now («new_gradient» .entry)) (now («new_hessian» .entry)) (now (gradient .entry)) (now (hessian .entry)))
         s (now (gradient .entry)) (now (hessian .entry)) r (now (gradient .exit)) (now (hessian .exit)) ⌝ }
 {
-    let checks = renewal_checked(s, n, new_gradient, new_hessian, gradient, hessian);
+    let state = s.state;
+    let phase = state.phase;
+    let sized = renewal_sized(n, new_gradient, new_hessian, gradient, hessian);
+    let sound = session::sound(s);
+    let in_turn = state::awaits_derivatives(phase);
+    let finite = vector::both_finite(new_gradient, new_hessian);
+    let checks = range::verdict(sized, sound, in_turn, finite);
     match checks {
         Verdict::Failed(r) => session::refusing(s, r),
         Verdict::Passed => {

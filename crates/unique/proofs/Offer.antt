@@ -9,7 +9,7 @@ use Rattle.offer.proofs.state as state
 
 pub table : List Line
 table =
-    unique offer.«make_unchecked».ended (λ M. offer.«make_unchecked».spec) (λ w κs a g r. refl) (λ κs a r r₂ s s₂ p q. (alike (p .says) (q .says), λ i. tt & tt & tt & tt & tt & tt & alike (p .leaves-step) (q .leaves-step) i & alike (p .leaves-trial) (q .leaves-trial) i & alike (p .leaves-scratch) (q .leaves-scratch) i & tt))
+    unique offer.«make_unchecked».ended (λ M. offer.«make_unchecked».spec) (λ w κs a g r. refl) (λ κs a r r₂ s s₂ p q. (alike (p .says) (q .says), λ i. tt & tt & tt & tt & tt & alike (p .leaves-step) (q .leaves-step) i & alike (p .leaves-trial) (q .leaves-trial) i & alike (p .leaves-scratch) (q .leaves-scratch) i & tt))
     ∷ equation lent.«all_sized».ended (λ M. lent.«all_sized».spec) (λ w κs a g r. refl) (λ κs a s s₂. refl)
     ∷ equation lent.«inputs_finite».ended (λ M. lent.«inputs_finite».spec) (λ w κs a g r. refl) (λ κs a s s₂. refl)
     ∷ unique lent.copy.ended (λ M. lent.copy.spec) (λ w κs a g r. refl) (λ κs a r r₂ s s₂ p q. (refl, λ i. tt & alike p q i & tt))

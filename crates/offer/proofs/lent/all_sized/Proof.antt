@@ -7,7 +7,7 @@ use Rattle.offer.proofs.lent.all_sized.Statement.{statement}
 use Rattle.offer.proofs.lent.all_sized.Tie as tie
 
 -- past the first test n * n is small, and so is n
-small : (c : tie.Else1) → let n = c .before .before .args .n in (n * n ≤ 4096) × (n ≤ 64)
+small : (c : tie.Else1) → let n = c .before .before .before .before .before .before .before .before .args .n in (n * n ≤ 4096) × (n ≤ 64)
 small c = size-small _ (passed (c .before .size .ensures) (c .if1 .left))
 
 pub all-sized-spec : {M : Type 1} → statement M

@@ -8,5 +8,5 @@ pub proposal-spec : {M : Type 1} → statement M
 proposal-spec =
     tie.close
     (tie.spec
-    (λ c κs. search needs) (λ c κs. search needs) (λ c κs. search needs)
-    (λ c. c .verdict .ensures ∙ rw (c .before .before .all-sized .ensures, c .before .inputs-finite .ensures)))
+    (λ c κs. search needs) (λ c κs. search needs) (λ c κs. search needs) (λ c κs. search needs)
+    (λ c. c .verdict .ensures ∙ rw (c .before .before .before .all-sized .ensures, c .before .before .is-ready .ensures, c .before .inputs-finite .ensures)))

@@ -1,4 +1,5 @@
 -- `sr1::sr1_trustregion::awaiting` meets its contract. Assumes nothing.
+use mathlib.Core.Path.{_∙_}
 use borrow.Author.Needs.{needs}
 use Rattle.sr1.proofs.sr1_trustregion.awaiting.Statement.{statement}
 use Rattle.sr1.proofs.sr1_trustregion.awaiting.Tie as tie
@@ -9,7 +10,4 @@ awaiting-spec =
     (tie.spec
     (λ c. search needs) (λ c κs. search needs) (λ c. search needs) (λ c κs. search needs) (λ c κs. search needs) (λ c κs. search needs)
     (λ c. rw (c .before .before .offered .given .1) (c .refusing .ensures))
-    (λ c.
-    let kept = c .before in
-    let promise = kept .before .predicted-fall .ensures in
-    rw (kept .before .before .before .offered2 .given .1) (let said = c .answering .ensures in let phase = kept .in-phase .ensures in cc)))
+    (λ c. let kept = c .before in rw (kept .before .before .before .offered2 .given .1) (c .answering .ensures ∙ rw (kept .in-phase .ensures, kept .before .predicted-fall .ensures))))

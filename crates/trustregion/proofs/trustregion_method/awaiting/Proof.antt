@@ -1,4 +1,5 @@
 -- `trustregion::trustregion_method::awaiting` meets its contract. Assumes nothing.
+use mathlib.Core.Path.{_∙_}
 use borrow.Author.Needs.{needs}
 use Rattle.trustregion.proofs.trustregion_method.awaiting.Statement.{statement}
 use Rattle.trustregion.proofs.trustregion_method.awaiting.Tie as tie
@@ -9,7 +10,4 @@ awaiting-spec =
     (tie.spec
     (λ c. search needs) (λ c κs. search needs) (λ c. search needs) (λ c κs. search needs) (λ c κs. search needs) (λ c κs. search needs)
     (λ c. rw (c .before .before .offered .given .1) (c .refusing .ensures))
-    (λ c.
-    let kept = c .before in
-    let promise = kept .before .model-value .ensures in
-    rw (kept .before .before .before .offered2 .given .1) (let said = c .answering .ensures in let phase = kept .in-phase .ensures in cc)))
+    (λ c. let kept = c .before in rw (kept .before .before .before .offered2 .given .1) (c .answering .ensures ∙ rw (kept .in-phase .ensures, kept .before .model-value .ensures))))
