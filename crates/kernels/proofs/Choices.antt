@@ -17,7 +17,6 @@ use Rattle.kernels.specs.Choice.{known, in-range, asked, kernel, door}
 use Rattle.vectors.specs.declared.refusal.Refusal.{Refusal}
 use Rattle.vectors.specs.declared.refusal.Refusal.the-variants.{Size, Setting, Entry}
 use Rattle.vectors.specs.declared.refusal.Verdict.the-variants.{Passed}
-use Rattle.kernels.specs.declared.kernel.Stepped.{Stepped}
 use Rattle.kernels.specs.declared.kernel.Stepped.the-variants.{Refused}
 use Rattle.kernels.specs.declared.choice.Choice.{Choice}
 use Rattle.vectors.proofs.Sizes.{both, each-holds, size-test}
@@ -77,23 +76,21 @@ module _ (c : Choice) (n : ℕ) (radius : Float) (g H w : List Float) where
   unfolding door
   shut-size e = rw (sym (no-step n (length H) (length g) (length w)) ∙ e) (record { says = refl; lays = refl })
 
-  module _ (e : sizes ≡ true) where
-    fits : all-hold (size n ∷ sized (n * n) H ∷ sized n g ∷ sized (room n) w ∷ []) ≡ true
-    fits = sym (no-step n (length H) (length g) (length w)) ∙ e
+  pub shut-kernel : sizes ≡ true → known (c .kernel) ≡ false → Laid (door c n radius g H w) (Refused Setting) w w
+  unfolding door
+  shut-kernel e k = rw (sym (no-step n (length H) (length g) (length w)) ∙ e, k) (record { says = refl; lays = refl })
 
-    pub shut-kernel : known (c .kernel) ≡ false → Laid (door c n radius g H w) (Refused Setting) w w
-    unfolding door
-    shut-kernel k = rw (fits, k) (record { says = refl; lays = refl })
+-- ---- which kernel a number names
 
-    module _ (k : known (c .kernel) ≡ true) (r : Stepped) (w′ : List Float) where
-      pub door-first : c .kernel ≡ 1 → Laid (cauchy-point n radius g H) r w w′ → Laid (door c n radius g H w) r w w′
-      unfolding door kernel
-      door-first a h = rw (fits, k, eq-eqb (c .kernel) 1 a) h
+module _ (c : Choice) where
+  pub first : c .kernel ≡ 1 → kernel c ≡ cauchy-point
+  unfolding kernel
+  first a = rw (eq-eqb (c .kernel) 1 a)
 
-      pub door-second : (c .kernel ≡ 1 → ⊥) → c .kernel ≡ 2 → Laid (dogleg n radius g H) r w w′ → Laid (door c n radius g H w) r w w′
-      unfolding door kernel
-      door-second a b h = rw (fits, k, ne-eqb (c .kernel) 1 a, eq-eqb (c .kernel) 2 b) h
+  pub second : (c .kernel ≡ 1 → ⊥) → c .kernel ≡ 2 → kernel c ≡ dogleg
+  unfolding kernel
+  second a b = rw (ne-eqb (c .kernel) 1 a, eq-eqb (c .kernel) 2 b)
 
-      pub door-third : (c .kernel ≡ 1 → ⊥) → (c .kernel ≡ 2 → ⊥) → Laid (steihaug (c .epsilon) (c .limit) n radius g H) r w w′ → Laid (door c n radius g H w) r w w′
-      unfolding door kernel
-      door-third a b h = rw (fits, k, ne-eqb (c .kernel) 1 a, ne-eqb (c .kernel) 2 b) h
+  pub third : (c .kernel ≡ 1 → ⊥) → (c .kernel ≡ 2 → ⊥) → kernel c ≡ steihaug (c .epsilon) (c .limit)
+  unfolding kernel
+  third a b = rw (ne-eqb (c .kernel) 1 a, ne-eqb (c .kernel) 2 b)
