@@ -57,13 +57,6 @@ pub fn cauchy_point(
         r (now (step .entry)) (now (step .exit)) (now (scratch .entry)) (now (scratch .exit)) ⌝ }
 {
     // the limit is not looked at
-    choice::direct(
-        Choice::new(1, 0),
-        n,
-        radius,
-        gradient,
-        hessian,
-        step,
-        scratch,
-    )
+    let choice = Choice::new(1, 0);
+    choice::direct(choice, n, radius, gradient, hessian, step, scratch)
 }

@@ -113,13 +113,6 @@ pub fn dogleg(
         r (now (step .entry)) (now (step .exit)) (now (scratch .entry)) (now (scratch .exit)) ⌝ }
 {
     // the limit is not looked at
-    choice::direct(
-        Choice::new(2, 0),
-        n,
-        radius,
-        gradient,
-        hessian,
-        step,
-        scratch,
-    )
+    let choice = Choice::new(2, 0);
+    choice::direct(choice, n, radius, gradient, hessian, step, scratch)
 }
