@@ -6,10 +6,10 @@ use stream::Input;
 use stream::Output;
 use stream::Word;
 
-// What a script leaves to do: the next one, or nothing.
+// The words and the page after a script that others may follow, or the page after the last.
 enum Turn {
     Next(Input, Output),
-    Stop,
+    Last(Output),
 }
 
 fn script(room: &mut [u8], page: &mut [u8], input: Input, length: u64, output: Output) -> Turn {
@@ -24,19 +24,9 @@ fn next(room: &mut [u8], page: &mut [u8], input: Input, output: Output) -> Turn 
     let word = stream::next_word(room, input);
     match word {
         Word::Is(length, place) => script(room, page, place, length, output),
-        Word::End => stop(page, output),
-        Word::Short => bad(page, output),
+        Word::End => Turn::Last(output),
+        Word::Short => Turn::Last(stream::put_text(page, output, b"bad input\n")),
     }
-}
-
-fn bad(page: &mut [u8], output: Output) -> Turn {
-    let said = stream::put_text(page, output, b"bad input\n");
-    stop(page, said)
-}
-
-fn stop(page: &[u8], output: Output) -> Turn {
-    stream::flush(page, output);
-    Turn::Stop
 }
 
 // A proved loop has to end, and nothing says that an input does: the scripts are counted down from a
@@ -52,7 +42,10 @@ fn run(room: &mut [u8], page: &mut [u8]) {
                 input = place;
                 output = put;
             }
-            Turn::Stop => return,
+            Turn::Last(put) => {
+                stream::flush(page, put);
+                return;
+            }
         }
     }
 }

@@ -23,10 +23,10 @@ enum Held {
     Cut,
 }
 
-// What a case leaves to do: the next one, or nothing.
+// The page after a case that others may follow, or after the last.
 enum Turn {
     Next(Output),
-    Stop,
+    Last(Output),
 }
 
 fn next_length() -> Length {
@@ -119,19 +119,9 @@ fn next(
             let said = Said::Refused(Refusal::Size);
             Turn::Next(case::lines::put(page, output, said, step))
         }
-        Held::End => stop(page, output),
-        Held::Cut => bad(page, output),
+        Held::End => Turn::Last(output),
+        Held::Cut => Turn::Last(stream::put_text(page, output, b"bad input\n")),
     }
-}
-
-fn bad(page: &mut [u8], output: Output) -> Turn {
-    let said = stream::put_text(page, output, b"bad input\n");
-    stop(page, said)
-}
-
-fn stop(page: &[u8], output: Output) -> Turn {
-    stream::flush(page, output);
-    Turn::Stop
 }
 
 // A proved loop has to end, and nothing says that an input does: the cases are counted down from a
@@ -150,7 +140,10 @@ fn run(
         left -= 1;
         match next(room, page, gradient, hessian, step, scratch, output) {
             Turn::Next(put) => output = put,
-            Turn::Stop => return,
+            Turn::Last(put) => {
+                stream::flush(page, put);
+                return;
+            }
         }
     }
 }

@@ -20,7 +20,7 @@ run-spec =
     (λ c. (refl, refl))
     (λ c. search needs) (λ c κs. tt) (λ c. search needs)
     (λ c. omega arith) (λ c. search needs)
-    (λ c. search needs)
+    (λ c. search needs) (λ c κs. tt)
     (λ c. search needs) (λ c. search needs)
     (λ c. search needs)
     (λ c. search needs) (λ c. search needs)

@@ -26,7 +26,7 @@ run-spec =
     (λ c. (refl, refl, refl, refl, refl, refl))
     (λ c. search needs) (λ c κs. tt) (λ c. search needs)
     (λ c. omega arith) (λ c. search needs)
-    (λ c. search needs)
+    (λ c. search needs) (λ c κs. tt)
     (λ c. search needs) (λ c. search needs) (λ c. search needs) (λ c. search needs) (λ c. search needs) (λ c. search needs)
     (λ c. search needs)
     (λ c. search needs) (λ c. search needs) (λ c. search needs) (λ c. search needs) (λ c. search needs) (λ c. search needs)
