@@ -85,8 +85,24 @@ pub(crate) fn gradient(before: After, n: usize) -> usize {
     }
 }
 
-// What a call said; `cost` is that of a trial, `radius` the one afterwards.
-pub(crate) fn said(outcome: Outcome, cost: f64, radius: f64) -> Event {
+fn state_of(session: Session) -> State {
+    match session {
+        Session::TrustRegion(s) => s.state,
+        Session::Sr1(s) => s.state,
+    }
+}
+
+// A session after a call, and what the call said; `cost` is that of a trial.
+pub(crate) fn told(session: Session, outcome: Outcome, cost: f64) -> After {
+    let state = state_of(session);
+    After {
+        session,
+        event: said(outcome, cost, state.radius),
+    }
+}
+
+// What a call said; `radius` is the one afterwards.
+fn said(outcome: Outcome, cost: f64, radius: f64) -> Event {
     match outcome {
         Outcome::Refused(r) => Event::Refused(r),
         Outcome::Done => Event::Done,
@@ -142,11 +158,10 @@ fn ending(state: State) -> Event {
 
 pub(crate) fn ended(before: After) -> After {
     let session = before.session;
-    let event = match session {
-        Session::TrustRegion(s) => ending(s.state),
-        Session::Sr1(s) => ending(s.state),
-    };
-    After { session, event }
+    After {
+        session,
+        event: ending(state_of(session)),
+    }
 }
 
 // Whether nothing follows.

@@ -88,10 +88,5 @@ pub(crate) fn judge(
 pub(crate) fn told(after: After, cost: f64) -> Happened {
     let session = after.session;
     let outcome = after.outcome;
-    let state = session.state;
-    happened(
-        session.settings,
-        state,
-        session::said(outcome, cost, state.radius),
-    )
+    session::told(Kinds::Sr1(session), outcome, cost)
 }

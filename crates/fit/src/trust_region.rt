@@ -55,12 +55,7 @@ pub(crate) fn happened(settings: Settings, state: State, event: Event) -> Happen
 pub(crate) fn told(after: After, cost: f64) -> Happened {
     let session = after.session;
     let outcome = after.outcome;
-    let state = session.state;
-    happened(
-        session.settings,
-        state,
-        session::said(outcome, cost, state.radius),
-    )
+    session::told(Kinds::TrustRegion(session), outcome, cost)
 }
 
 // The answer to a trial.
