@@ -26,7 +26,7 @@ add-nan = record { first = λ y. refl; second = each (λ x. add binary64 x nan �
 
 pub sub-nan : Spoilt (sub binary64)
 unfolding sub
-sub-nan = record { first = λ y. refl; second = each (λ x. sub binary64 x nan ≡ nan) refl (λ s. refl) (λ s m e. refl) }
+sub-nan = record { first = λ y. refl; second = add-nan .second }
 
 pub mul-nan : Spoilt (mul binary64)
 unfolding mul
