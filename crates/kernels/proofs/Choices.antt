@@ -9,11 +9,11 @@ use lib.Ieee.{Float}
 use borrow.Author.Tests.{eq-eqb, ne-eqb}
 use Rattle.vectors.specs.Vector.{all-finite}
 use Rattle.vectors.specs.Refusal.{Check, _if_, judged, all-hold, size, sized, room}
-use Rattle.kernels.specs.Kernel.{positive, bounds, Proper, Laid, kernel-checks}
+use Rattle.kernels.specs.Kernel.{positive, Proper, Laid, kernel-checks}
 use Rattle.kernels.specs.CauchyPoint.{cauchy-point}
 use Rattle.kernels.specs.Dogleg.{dogleg}
 use Rattle.kernels.specs.Steihaug.{steihaug}
-use Rattle.kernels.specs.Choice.{known, in-range, asked, kernel, door}
+use Rattle.kernels.specs.Choice.{known, ranges, in-range, asked, kernel, door}
 use Rattle.vectors.specs.declared.refusal.Refusal.{Refusal}
 use Rattle.vectors.specs.declared.refusal.Refusal.the-variants.{Size, Setting, Entry}
 use Rattle.vectors.specs.declared.refusal.Verdict.the-variants.{Passed}
@@ -38,7 +38,7 @@ kernel-proper c n radius g H = pick (eqb (c .kernel) 1) (eqb (c .kernel) 2) wher
 
 pub in-range-known : (c : Choice) → in-range c ≡ true → known (c .kernel) ≡ true
 unfolding in-range
-in-range-known c e = each-holds (known (c .kernel) ∷ bounds (c .epsilon) (c .limit)) e .0
+in-range-known c e = each-holds (ranges c) e .0
 
 asked-known : (c : Choice) → asked c ≡ true → known (c .kernel) ≡ true
 unfolding asked

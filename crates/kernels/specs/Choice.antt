@@ -22,9 +22,12 @@ unfoldable pub known : (kernel : ℕ) → Bool
 known kernel = leb 1 kernel && leb kernel 3
 
 -- "Kernel 1 to 3 ..; epsilon > 0; Steihaug's iteration limit 0 to 10,000", whatever the kernel
+abbrev pub ranges : Choice → List Bool
+ranges c = known (c .kernel) ∷ bounds (c .epsilon) (c .limit)
+
 unfoldable pub in-range : Choice → Bool
 unfolding known positive
-in-range c = all-hold (known (c .kernel) ∷ bounds (c .epsilon) (c .limit))
+in-range c = all-hold (ranges c)
 
 -- what a kernel that is called directly asks: "epsilon and limit are checked for kernel 3 only"
 unfoldable pub asked : Choice → Bool
