@@ -1,1 +1,3 @@
 pub mod Lists
+pub mod TrustRegion
+pub mod Sr1

@@ -4,34 +4,22 @@ use mathlib.Core.List.{List}
 use Prim.Native.Nat.{ℕ}
 use lib.Dec.{leb}
 use lib.Ieee.{Float}
-use Rattle.float.specs.Constants.{nought}
-use Rattle.vectors.specs.Refusal.{number}
 use Rattle.vectors.specs.Vector.{at}
-use Rattle.trustregion.specs.Session as By-value
-use Rattle.trustregion.specs.Calls.{begun}
+use Rattle.trustregion.specs.Session.{start}
 use Rattle.trustregion.specs.declared.session.Session.{Session}
-use Rattle.trustregion.specs.declared.session.Start.{Start}
-use Rattle.trustregion.specs.declared.session.Start.the-variants as start
 use Rattle.trustregion.specs.declared.session.After.{After}
-use Rattle.foreign_sessions.specs.declared.Held.{Held}
-use Rattle.foreign_sessions.specs.declared.Said.the-variants as said
 use Rattle.foreign_sessions.specs.Lists as Lists
-use Rattle.foreign_sessions.specs.Lists.{word, held-in, said-of, Told, told, kept}
+use Rattle.foreign_sessions.specs.Lists.{word, choice-in, state-in, Told, kept, began}
 
-abbrev pub session-of : Held → (settings : List Float) → Session
-session-of held settings =
-    record { settings = record { choice = held .0; radius = at settings 0; «max_radius» = at settings 1; eta = at settings 2 }; state = held .1 }
+abbrev pub session-in : (phase : ℕ) → (words : List ℕ) → (numbers settings : List Float) → Session
+session-in phase words numbers settings = record {
+  settings = record { choice = choice-in (leb phase 2) words numbers; radius = at settings 0; «max_radius» = at settings 1; eta = at settings 2 };
+  state = state-in phase numbers;
+}
 
-abbrev pub held-by : Session → Held
-held-by s = (s .settings .choice, s .state)
-
--- what a start comes to, and leaves
-abbrev pub begins : Session → Start
-begins s = begun (By-value.start (s .settings) (s .state .cost))
-
-abbrev pub began : (words : List ℕ) → (numbers : List Float) → Start → Told
-began words numbers (start.Refused r) = told (number r) words numbers
-began words numbers (start.Started s) = kept words numbers (held-by s) (said.Kept 0 0 nought)
+-- a start looks at no phase
+abbrev pub starts : (words : List ℕ) → (numbers settings : List Float) → Told
+starts words numbers settings = began words numbers (λ s. s .state) (start (session-in 0 words numbers settings .settings) (at numbers 2))
 
 abbrev pub Driven : (words : List ℕ) → (numbers settings : List Float) → (Session → After → Type 0) → Told → Type 0
-Driven words numbers settings = Lists.Driven (session-of (held-in (leb (word words 2) 2) words numbers) settings) (λ after. said-of (after .outcome)) (λ after. held-by (after .session)) (kept words numbers)
+Driven words numbers settings = Lists.Driven (session-in (word words 2) words numbers settings) (λ after. kept words numbers (after .session .state) (after .outcome))

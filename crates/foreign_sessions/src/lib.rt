@@ -13,23 +13,13 @@ use kernels::choice::Choice;
 use offer::state::Outcome;
 use offer::state::Phase;
 use offer::state::State;
-use vectors::refusal::Refusal;
 ghost use mathlib.Core.Path.{_≡_};
 ghost use mathlib.Core.Bool.{cond};
 ghost use Rattle.foreign_sessions.specs.Lists as Lists;
-ghost use Rattle.foreign_sessions.specs.Lists.{held-in, told, kept};
+ghost use Rattle.foreign_sessions.specs.Lists.{choice-in, state-in, told, written, kept};
 
 // A phase: its number, and what a cost is awaited on, the promise and the step norm, each 0 where none is.
 pub struct Turn(pub u64, pub f64, pub f64);
-
-// What words and numbers hold of a session, whatever its kind: the kernel's choice and the state.
-pub struct Held(pub Choice, pub State);
-
-// What a call said: its number, the passes of a proposal and the ratio of a verdict, each 0 where there is none.
-pub enum Said {
-    Refused(Refusal),
-    Kept(u64, u64, f64),
-}
 
 // ---- from lists
 
@@ -38,6 +28,16 @@ fn kernel_of(kernel: u64, phase_known: bool) -> u64
     ensures { λ r. ⌜ r ≡ cond «phase_known» kernel 0 ⌝ }
 {
     if phase_known { kernel } else { 0 }
+}
+
+pub(crate) fn choice_in(phase_known: bool, words: &[u64; 5], numbers: &[f64; 6]) -> Choice
+    ensures { λ r. ⌜ r ≡ choice-in «phase_known» (now (words .entry)) (now (numbers .entry)) ⌝ }
+{
+    Choice {
+        kernel: kernel_of(words[0], phase_known),
+        epsilon: numbers[0],
+        limit: words[1],
+    }
 }
 
 fn phase_of(turn: Turn) -> Phase
@@ -52,22 +52,15 @@ fn phase_of(turn: Turn) -> Phase
     Phase::AwaitingDerivatives
 }
 
-pub(crate) fn held_in(phase_known: bool, words: &[u64; 5], numbers: &[f64; 6]) -> Held
-    ensures { λ r. ⌜ r ≡ held-in «phase_known» (now (words .entry)) (now (numbers .entry)) ⌝ }
+pub(crate) fn state_in(phase: u64, numbers: &[f64; 6]) -> State
+    ensures { λ r. ⌜ r ≡ state-in phase (now (numbers .entry)) ⌝ }
 {
-    let kernel = kernel_of(words[0], phase_known);
-    let phase = phase_of(Turn(words[2], numbers[3], numbers[4]));
-    let choice = Choice {
-        kernel: kernel,
-        epsilon: numbers[0],
-        limit: words[1],
-    };
-    let state = State {
+    let phase = phase_of(Turn(phase, numbers[3], numbers[4]));
+    State {
         radius: numbers[1],
         cost: numbers[2],
         phase: phase,
-    };
-    Held(choice, state)
+    }
 }
 
 // ---- into lists
@@ -82,40 +75,39 @@ fn turn_of(phase: Phase) -> Turn
     }
 }
 
-pub(crate) fn said_of(outcome: Outcome) -> Said
-    ensures { λ r. ⌜ r ≡ Lists.said-of outcome ⌝ }
+// Kernel, limit and epsilon stay: no call changes a setting. Where a call is taken epsilon is finite, so no NaN is copied.
+pub(crate) fn write(
+    state: State,
+    said: u64,
+    passes: u64,
+    ratio: f64,
+    words: &mut [u64; 5],
+    numbers: &mut [f64; 6],
+) -> u64
+    ensures { λ r. ⌜ told r (now (words .exit)) (now (numbers .exit)) ≡ written (now (words .entry)) (now (numbers .entry)) state said passes ratio ⌝ }
 {
-    match outcome {
-        Outcome::Refused(r) => Said::Refused(r),
-        Outcome::Proposed(passes) => Said::Kept(1, passes, 0.0),
-        Outcome::Accepted(ratio) => Said::Kept(2, 0, ratio),
-        Outcome::Rejected(ratio) => Said::Kept(3, 0, ratio),
-        Outcome::Taken => Said::Kept(4, 0, 0.0),
-        Outcome::Done => Said::Kept(5, 0, 0.0),
-    }
+    let phase = state.phase;
+    let turn = turn_of(phase);
+    *words = [words[0], words[1], turn.0, said, passes];
+    *numbers = [numbers[0], state.radius, state.cost, turn.1, turn.2, ratio];
+    0
 }
 
 // A refusal writes nothing: the lists keep their bits.
-pub(crate) fn keep(held: Held, said: Said, words: &mut [u64; 5], numbers: &mut [f64; 6]) -> u64
-    ensures { λ r. ⌜ told r (now (words .exit)) (now (numbers .exit)) ≡ kept (now (words .entry)) (now (numbers .entry)) held said ⌝ }
+pub(crate) fn keep(
+    state: State,
+    outcome: Outcome,
+    words: &mut [u64; 5],
+    numbers: &mut [f64; 6],
+) -> u64
+    ensures { λ r. ⌜ told r (now (words .exit)) (now (numbers .exit)) ≡ kept (now (words .entry)) (now (numbers .entry)) state outcome ⌝ }
 {
-    match said {
-        Said::Refused(r) => vectors::refusal::number(r),
-        Said::Kept(number, passes, ratio) => {
-            let choice = held.0;
-            let state = held.1;
-            let phase = state.phase;
-            let turn = turn_of(phase);
-            *words = [choice.kernel, choice.limit, turn.0, number, passes];
-            *numbers = [
-                choice.epsilon,
-                state.radius,
-                state.cost,
-                turn.1,
-                turn.2,
-                ratio,
-            ];
-            0
-        }
+    match outcome {
+        Outcome::Refused(r) => vectors::refusal::number(r),
+        Outcome::Proposed(passes) => write(state, 1, passes, 0.0, words, numbers),
+        Outcome::Accepted(ratio) => write(state, 2, 0, ratio, words, numbers),
+        Outcome::Rejected(ratio) => write(state, 3, 0, ratio, words, numbers),
+        Outcome::Taken => write(state, 4, 0, 0.0, words, numbers),
+        Outcome::Done => write(state, 5, 0, 0.0, words, numbers),
     }
 }

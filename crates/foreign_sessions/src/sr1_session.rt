@@ -1,42 +1,28 @@
 // An SR1TrustRegion session in lists. Its own settings: radius, eta, factor, tol_grad. It awaits no derivatives.
-use crate::Held;
-use crate::Said;
 use sr1::session::Session;
 use sr1::session::Start;
 use sr1::settings::Settings;
 use sr1::sr1_trustregion;
 ghost use mathlib.Core.Path.{_≡_};
-ghost use mathlib.Core.Bool.{true};
 ghost use Rattle.sr1.specs.Settings.{chosen};
 ghost use Rattle.sr1.specs.Session.{proposal, judgement};
 ghost use Rattle.sr1.specs.Calls.{Proposes, Judges};
-ghost use Rattle.foreign_sessions.specs.Lists.{told, held-in};
-ghost use Rattle.foreign_sessions.specs.Sr1 as Definition;
-ghost use Rattle.foreign_sessions.specs.Sr1.{session-of, begins, began, Driven};
+ghost use Rattle.foreign_sessions.specs.Lists.{told};
+ghost use Rattle.foreign_sessions.specs.Sr1.{session-in, starts, Driven};
 
-fn session_of(held: Held, settings: &[f64; 4]) -> Session
-    ensures { λ r. ⌜ r ≡ session-of held (now (settings .entry)) ⌝ }
+fn session_in(phase: u64, words: &[u64; 5], numbers: &[f64; 6], settings: &[f64; 4]) -> Session
+    ensures { λ r. ⌜ r ≡ session-in phase (now (words .entry)) (now (numbers .entry)) (now (settings .entry)) ⌝ }
 {
-    let choice = held.0;
-    let state = held.1;
     Session {
         settings: Settings {
-            choice: choice,
+            choice: crate::choice_in(phase <= 1, words, numbers),
             radius: settings[0],
             eta: settings[1],
             factor: settings[2],
             tol_grad: settings[3],
         },
-        state: state,
+        state: crate::state_in(phase, numbers),
     }
-}
-
-fn held_by(s: Session) -> Held
-    ensures { λ r. ⌜ r ≡ Definition.held-by s ⌝ }
-{
-    let choice = s.settings.choice;
-    let state = s.state;
-    Held(choice, state)
 }
 
 // ---- the calls
@@ -48,14 +34,12 @@ pub extern "C" fn mboyaxin_sr1_start(
     numbers: &mut [f64; 6],
     settings: &[f64; 4],
 ) -> u64
-    ensures { λ r. ⌜ told r (now (words .exit)) (now (numbers .exit))
-        ≡ began (now (words .entry)) (now (numbers .entry)) (begins (session-of (held-in true (now (words .entry)) (now (numbers .entry))) (now (settings .entry)))) ⌝ }
+    ensures { λ r. ⌜ told r (now (words .exit)) (now (numbers .exit)) ≡ starts (now (words .entry)) (now (numbers .entry)) (now (settings .entry)) ⌝ }
 {
-    let given = session_of(crate::held_in(true, words, numbers), settings);
-    let start = sr1_trustregion::start(given.settings, given.state.cost);
-    match start {
+    let given = session_in(0, words, numbers, settings);
+    match sr1_trustregion::start(given.settings, numbers[2]) {
         Start::Refused(r) => vectors::refusal::number(r),
-        Start::Started(s) => crate::keep(held_by(s), Said::Kept(0, 0, 0.0), words, numbers),
+        Start::Started(s) => crate::write(s.state, 0, 0, 0.0, words, numbers),
     }
 }
 
@@ -76,15 +60,10 @@ pub extern "C" fn mboyaxin_sr1_propose(
         s (now (step .entry)) (now (trial .entry)) (now (scratch .entry)) after (now (step .exit)) (now (trial .exit)) (now (scratch .exit)))
         (told r (now (words .exit)) (now (numbers .exit))) ⌝ }
 {
-    let s = session_of(crate::held_in(words[2] <= 1, words, numbers), settings);
+    let s = session_in(words[2], words, numbers, settings);
     let after = sr1_trustregion::proposed(s, n, point, gradient, hessian, step, trial, scratch);
     let outcome = after.outcome;
-    crate::keep(
-        held_by(after.session),
-        crate::said_of(outcome),
-        words,
-        numbers,
-    )
+    crate::keep(after.session.state, outcome, words, numbers)
 }
 
 #[no_mangle]
@@ -106,7 +85,7 @@ pub extern "C" fn mboyaxin_sr1_answer(
         s (now (point .entry)) (now (gradient .entry)) (now (hessian .entry)) (now (scratch .entry)) after (now (point .exit)) (now (gradient .exit)) (now (hessian .exit)) (now (scratch .exit)))
         (told r (now (words .exit)) (now (numbers .exit))) ⌝ }
 {
-    let s = session_of(crate::held_in(words[2] <= 1, words, numbers), settings);
+    let s = session_in(words[2], words, numbers, settings);
     let after = sr1_trustregion::judged(
         s,
         n,
@@ -120,10 +99,5 @@ pub extern "C" fn mboyaxin_sr1_answer(
         scratch,
     );
     let outcome = after.outcome;
-    crate::keep(
-        held_by(after.session),
-        crate::said_of(outcome),
-        words,
-        numbers,
-    )
+    crate::keep(after.session.state, outcome, words, numbers)
 }

@@ -1,41 +1,27 @@
 // A TrustRegion session in lists. Its own settings: radius, max_radius, eta.
-use crate::Held;
-use crate::Said;
 use trustregion::session::Session;
 use trustregion::session::Start;
 use trustregion::settings::Settings;
 use trustregion::trustregion_method;
 ghost use mathlib.Core.Path.{_≡_};
-ghost use mathlib.Core.Bool.{true};
 ghost use Rattle.trustregion.specs.Settings.{chosen};
 ghost use Rattle.trustregion.specs.Session.{proposal, judgement, renewal};
 ghost use Rattle.trustregion.specs.Calls.{Proposes, Judges, Renews};
-ghost use Rattle.foreign_sessions.specs.Lists.{told, held-in};
-ghost use Rattle.foreign_sessions.specs.TrustRegion as Definition;
-ghost use Rattle.foreign_sessions.specs.TrustRegion.{session-of, begins, began, Driven};
+ghost use Rattle.foreign_sessions.specs.Lists.{told};
+ghost use Rattle.foreign_sessions.specs.TrustRegion.{session-in, starts, Driven};
 
-fn session_of(held: Held, settings: &[f64; 3]) -> Session
-    ensures { λ r. ⌜ r ≡ session-of held (now (settings .entry)) ⌝ }
+fn session_in(phase: u64, words: &[u64; 5], numbers: &[f64; 6], settings: &[f64; 3]) -> Session
+    ensures { λ r. ⌜ r ≡ session-in phase (now (words .entry)) (now (numbers .entry)) (now (settings .entry)) ⌝ }
 {
-    let choice = held.0;
-    let state = held.1;
     Session {
         settings: Settings {
-            choice: choice,
+            choice: crate::choice_in(phase <= 2, words, numbers),
             radius: settings[0],
             max_radius: settings[1],
             eta: settings[2],
         },
-        state: state,
+        state: crate::state_in(phase, numbers),
     }
-}
-
-fn held_by(s: Session) -> Held
-    ensures { λ r. ⌜ r ≡ Definition.held-by s ⌝ }
-{
-    let choice = s.settings.choice;
-    let state = s.state;
-    Held(choice, state)
 }
 
 // ---- the calls
@@ -47,14 +33,12 @@ pub extern "C" fn mboyaxin_trustregion_start(
     numbers: &mut [f64; 6],
     settings: &[f64; 3],
 ) -> u64
-    ensures { λ r. ⌜ told r (now (words .exit)) (now (numbers .exit))
-        ≡ began (now (words .entry)) (now (numbers .entry)) (begins (session-of (held-in true (now (words .entry)) (now (numbers .entry))) (now (settings .entry)))) ⌝ }
+    ensures { λ r. ⌜ told r (now (words .exit)) (now (numbers .exit)) ≡ starts (now (words .entry)) (now (numbers .entry)) (now (settings .entry)) ⌝ }
 {
-    let given = session_of(crate::held_in(true, words, numbers), settings);
-    let start = trustregion_method::start(given.settings, given.state.cost);
-    match start {
+    let given = session_in(0, words, numbers, settings);
+    match trustregion_method::start(given.settings, numbers[2]) {
         Start::Refused(r) => vectors::refusal::number(r),
-        Start::Started(s) => crate::keep(held_by(s), Said::Kept(0, 0, 0.0), words, numbers),
+        Start::Started(s) => crate::write(s.state, 0, 0, 0.0, words, numbers),
     }
 }
 
@@ -75,15 +59,10 @@ pub extern "C" fn mboyaxin_trustregion_propose(
         s (now (step .entry)) (now (trial .entry)) (now (scratch .entry)) after (now (step .exit)) (now (trial .exit)) (now (scratch .exit)))
         (told r (now (words .exit)) (now (numbers .exit))) ⌝ }
 {
-    let s = session_of(crate::held_in(words[2] <= 2, words, numbers), settings);
+    let s = session_in(words[2], words, numbers, settings);
     let after = trustregion_method::proposed(s, n, point, gradient, hessian, step, trial, scratch);
     let outcome = after.outcome;
-    crate::keep(
-        held_by(after.session),
-        crate::said_of(outcome),
-        words,
-        numbers,
-    )
+    crate::keep(after.session.state, outcome, words, numbers)
 }
 
 #[no_mangle]
@@ -99,15 +78,10 @@ pub extern "C" fn mboyaxin_trustregion_answer_cost(
     ensures { λ r. ⌜ Driven (now (words .entry)) (now (numbers .entry)) (now (settings .entry)) (λ s after. Judges (judgement s n cost (now (point .entry)) (now (trial .entry))) s (now (point .entry)) after (now (point .exit)))
         (told r (now (words .exit)) (now (numbers .exit))) ⌝ }
 {
-    let s = session_of(crate::held_in(words[2] <= 2, words, numbers), settings);
+    let s = session_in(words[2], words, numbers, settings);
     let after = trustregion_method::judged(s, n, cost, point, trial);
     let outcome = after.outcome;
-    crate::keep(
-        held_by(after.session),
-        crate::said_of(outcome),
-        words,
-        numbers,
-    )
+    crate::keep(after.session.state, outcome, words, numbers)
 }
 
 #[no_mangle]
@@ -125,13 +99,8 @@ pub extern "C" fn mboyaxin_trustregion_answer_derivatives(
         s (now (gradient .entry)) (now (hessian .entry)) after (now (gradient .exit)) (now (hessian .exit)))
         (told r (now (words .exit)) (now (numbers .exit))) ⌝ }
 {
-    let s = session_of(crate::held_in(words[2] <= 2, words, numbers), settings);
+    let s = session_in(words[2], words, numbers, settings);
     let after = trustregion_method::renewed(s, n, new_gradient, new_hessian, gradient, hessian);
     let outcome = after.outcome;
-    crate::keep(
-        held_by(after.session),
-        crate::said_of(outcome),
-        words,
-        numbers,
-    )
+    crate::keep(after.session.state, outcome, words, numbers)
 }

@@ -1,8 +1,6 @@
 -- crates/foreign_sessions: each contract has one result. Assumes nothing.
 use mathlib.Core.Path.{_≡_, refl, sym, _∙_, ap}
 use mathlib.Core.List.{List, [], _∷_}
-use Rattle.foreign_sessions.specs.declared.Held.{Held}
-use Rattle.foreign_sessions.specs.declared.Said.{Said}
 use Rattle.foreign_sessions.specs.Lists.{Told, Driven}
 use Rattle.unique.proofs.Law.{Line, unique, alike, _&_}
 use Rattle.unique.proofs.TrustRegion as trustregion
@@ -11,8 +9,8 @@ use Rattle.foreign_sessions.proofs.trust_region as trust-region
 use Rattle.foreign_sessions.proofs.sr1_session as sr1-session
 
 -- what is kept in the lists is one, where what the call by value returns is
-kept : {Session After : Type 0} {session : Session} {said-of : After → Said} {held-by : After → Held} {keep : Held → Said → Told} {Call Call₂ : Session → After → Type 0} {t t₂ : Told} (p : Driven session said-of held-by keep Call t) (q : Driven session said-of held-by keep Call₂ t₂) → p .after ≡ q .after → t ≡ t₂
-kept {said-of = said-of} {held-by = held-by} {keep = keep} p q e = p .keeps ∙ ap (λ after. keep (held-by after) (said-of after)) e ∙ sym (q .keeps)
+kept : {Session After : Type 0} {session : Session} {keep : After → Told} {Call Call₂ : Session → After → Type 0} {t t₂ : Told} (p : Driven session keep Call t) (q : Driven session keep Call₂ t₂) → p .after ≡ q .after → t ≡ t₂
+kept {keep = keep} p q e = p .keeps ∙ ap keep e ∙ sym (q .keeps)
 
 pub table : List Line
 table =

@@ -5,7 +5,7 @@ use Rattle.foreign_sessions.proofs.trust_region.mboyaxin_trustregion_an
 use Rattle.foreign_sessions.proofs.trust_region.mboyaxin_trustregion_answer_cost.Tie as tie
 
 returns : tie.Need-returns
-returns c = drives _ _ _ _ _ _ _ _ _ _ (rw (c .before .before .before .before .before .before .before .before .before .before .held-in .ensures) at (c .before .before .before .before .before .before .before .before .before .session-of .ensures)) (c .before .before .before .before .before .before .before .judged .ensures) (c .before .before .before .before .held-by .ensures) (c .before .before .before .said-of .ensures) (c .keep .ensures)
+returns c = drives _ _ (c .before .before .before .before .before .before .before .session-in .ensures) (c .before .before .before .before .before .judged .ensures) (c .keep .ensures)
 
 pub mboyaxin-trustregion-answer-cost-spec : {M : Type 1} → statement M
-mboyaxin-trustregion-answer-cost-spec = tie.close (tie.spec (λ c. search needs) (λ c κs. search needs) (λ c κs. search needs) (λ c κs. search needs) (λ c κs. search needs) (λ c κs. search needs) (λ c κs. search needs) (λ c. search needs) returns)
+mboyaxin-trustregion-answer-cost-spec = tie.close (tie.spec (λ c. search needs) (λ c κs. search needs) (λ c κs. search needs) (λ c κs. search needs) (λ c. search needs) returns)
