@@ -10,6 +10,7 @@ use Rattle.words.specs.Words.{word-at}
 use Rattle.vectors.specs.Vector.{tab, all-finite}
 use Rattle.vectors.specs.Refusal.{Answer, refused, given, Check, _if_, unless, size, room, left-in, scratch-after}
 use Rattle.kernels.specs.Kernel.{Made, positive}
+use Rattle.kernels.specs.Choice as Chosen
 use Rattle.kernels.specs.Choice.{asked, kernel}
 use Rattle.vectors.specs.declared.refusal.Refusal.the-variants.{Size, Setting, Entry}
 use Rattle.kernels.specs.declared.choice.Choice.{Choice}
@@ -34,7 +35,7 @@ numbers bytes i k = tab k (λ j. number bytes (i + j))
 
 -- "kernel 1 to 3, n, radius, epsilon, limit, g, H", in this order
 abbrev pub choice-of : List ℕ → Choice
-choice-of bytes = record { kernel = word bytes 0; epsilon = number bytes 3; limit = word bytes 4 }
+choice-of bytes = Chosen.choice-of (word bytes 0) (number bytes 3) (word bytes 4)
 
 abbrev pub size-of : List ℕ → ℕ
 size-of bytes = word bytes 1

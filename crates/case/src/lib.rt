@@ -106,11 +106,7 @@ fn solve(
 {
     fill(bytes, 5, gradient);
     fill(bytes, 5 + n, hessian);
-    let chosen = Choice {
-        kernel: word(bytes, 0),
-        epsilon: number(bytes, 3),
-        limit: word(bytes, 4),
-    };
+    let chosen = Choice::of(word(bytes, 0), number(bytes, 3), word(bytes, 4));
     let radius = number(bytes, 2);
     choice::direct(chosen, n, radius, gradient, hessian, step, scratch)
 }

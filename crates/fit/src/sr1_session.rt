@@ -18,18 +18,8 @@ use sr1::sr1_trustregion;
 
 // The numbers are radius, eta, factor, tol_grad and epsilon. Where a start is refused, no call is made of what stands for it.
 pub(crate) fn begin(kernel: u64, numbers: [f64; 5], limit: u64, cost: f64) -> Happened {
-    let choice = Choice {
-        kernel,
-        epsilon: numbers[4],
-        limit,
-    };
-    let settings = Settings {
-        choice,
-        radius: numbers[0],
-        eta: numbers[1],
-        factor: numbers[2],
-        tol_grad: numbers[3],
-    };
+    let choice = Choice::of(kernel, numbers[4], limit);
+    let settings = Settings::of(choice, numbers[0], numbers[1], numbers[2], numbers[3]);
     let start = sr1_trustregion::start(settings, cost);
     match start {
         Start::Refused(r) => {

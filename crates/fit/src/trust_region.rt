@@ -22,17 +22,8 @@ use trustregion::trustregion_method;
 // The numbers are radius, max_radius, eta and epsilon. Where a start is refused, no call is made of what stands for it.
 pub(crate) fn begin(kernel: u64, numbers: [f64; 5], limit: u64, cost: f64) -> Happened {
     let radius = numbers[0];
-    let choice = Choice {
-        kernel,
-        epsilon: numbers[3],
-        limit,
-    };
-    let settings = Settings {
-        choice,
-        radius,
-        max_radius: numbers[1],
-        eta: numbers[2],
-    };
+    let choice = Choice::of(kernel, numbers[3], limit);
+    let settings = Settings::of(choice, radius, numbers[1], numbers[2]);
     let start = trustregion_method::start(settings, cost);
     match start {
         Start::Started(s) => happened(settings, s.state, Event::Started(cost, radius)),

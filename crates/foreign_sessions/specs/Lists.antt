@@ -10,7 +10,9 @@ use lib.Ieee.{Float}
 use Rattle.float.specs.Constants.{nought}
 use Rattle.vectors.specs.Refusal.{number, Answer, refused, given}
 use Rattle.vectors.specs.Vector.{at}
+use Rattle.kernels.specs.Choice.{choice-of}
 use Rattle.kernels.specs.declared.choice.Choice.{Choice}
+use Rattle.offer.specs.State.{begin, in-phase}
 use Rattle.offer.specs.declared.state.State.{State}
 use Rattle.offer.specs.declared.state.Phase.{Phase}
 use Rattle.offer.specs.declared.state.Phase.the-variants.{Ready, AwaitingCost, AwaitingDerivatives}
@@ -26,13 +28,13 @@ word words i = getD words i 0
 
 -- the kernel is 0 where the phase is none: refusal 2 meets it
 abbrev pub choice-in : (phase-known : Bool) → (words : List ℕ) → (numbers : List Float) → Choice
-choice-in phase-known words numbers = record { kernel = cond phase-known (word words 0) 0; epsilon = at numbers 0; limit = word words 1 }
+choice-in phase-known words numbers = choice-of (cond phase-known (word words 0) 0) (at numbers 0) (word words 1)
 
 abbrev pub phase-of : Turn → Phase
 phase-of turn = cond (eqb (turn .0) 0) Ready (cond (eqb (turn .0) 1) (AwaitingCost (turn .1) (turn .2)) AwaitingDerivatives)
 
 abbrev pub state-in : (phase : ℕ) → (numbers : List Float) → State
-state-in phase numbers = record { radius = at numbers 1; cost = at numbers 2; phase = phase-of (phase, at numbers 3, at numbers 4) }
+state-in phase numbers = in-phase (phase-of (phase, at numbers 3, at numbers 4)) (begin (at numbers 1) (at numbers 2))
 
 -- ---- into lists
 

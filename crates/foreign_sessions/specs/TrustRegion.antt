@@ -5,6 +5,7 @@ use Prim.Native.Nat.{ℕ}
 use lib.Dec.{leb}
 use lib.Ieee.{Float}
 use Rattle.vectors.specs.Vector.{at}
+use Rattle.trustregion.specs.Settings.{settings-of}
 use Rattle.trustregion.specs.Session.{start}
 use Rattle.trustregion.specs.declared.session.Session.{Session}
 use Rattle.trustregion.specs.declared.session.After.{After}
@@ -13,7 +14,7 @@ use Rattle.foreign_sessions.specs.Lists.{word, choice-in, state-in, Told
 
 abbrev pub session-in : (phase : ℕ) → (words : List ℕ) → (numbers settings : List Float) → Session
 session-in phase words numbers settings = record {
-  settings = record { choice = choice-in (leb phase 2) words numbers; radius = at settings 0; «max_radius» = at settings 1; eta = at settings 2 };
+  settings = settings-of (choice-in (leb phase 2) words numbers) (at settings 0) (at settings 1) (at settings 2);
   state = state-in phase numbers;
 }
 

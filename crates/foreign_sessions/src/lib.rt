@@ -10,6 +10,7 @@ pub mod sr1_session;
 pub mod trust_region;
 
 use kernels::choice::Choice;
+use offer::state;
 use offer::state::Outcome;
 use offer::state::Phase;
 use offer::state::State;
@@ -33,11 +34,8 @@ fn kernel_of(kernel: u64, phase_known: bool) -> u64
 pub(crate) fn choice_in(phase_known: bool, words: &[u64; 5], numbers: &[f64; 6]) -> Choice
     ensures { λ r. ⌜ r ≡ choice-in «phase_known» (now (words .entry)) (now (numbers .entry)) ⌝ }
 {
-    Choice {
-        kernel: kernel_of(words[0], phase_known),
-        epsilon: numbers[0],
-        limit: words[1],
-    }
+    let kernel = kernel_of(words[0], phase_known);
+    Choice::of(kernel, numbers[0], words[1])
 }
 
 fn phase_of(turn: Turn) -> Phase
@@ -56,11 +54,7 @@ pub(crate) fn state_in(phase: u64, numbers: &[f64; 6]) -> State
     ensures { λ r. ⌜ r ≡ state-in phase (now (numbers .entry)) ⌝ }
 {
     let phase = phase_of(Turn(phase, numbers[3], numbers[4]));
-    State {
-        radius: numbers[1],
-        cost: numbers[2],
-        phase: phase,
-    }
+    state::in_phase(state::begin(numbers[1], numbers[2]), phase)
 }
 
 // ---- into lists

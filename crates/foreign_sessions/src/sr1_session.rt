@@ -13,14 +13,9 @@ ghost use Rattle.foreign_sessions.specs.Sr1.{session-in, starts, Driven}
 fn session_in(phase: u64, words: &[u64; 5], numbers: &[f64; 6], settings: &[f64; 4]) -> Session
     ensures { λ r. ⌜ r ≡ session-in phase (now (words .entry)) (now (numbers .entry)) (now (settings .entry)) ⌝ }
 {
+    let choice = crate::choice_in(phase <= 1, words, numbers);
     Session {
-        settings: Settings {
-            choice: crate::choice_in(phase <= 1, words, numbers),
-            radius: settings[0],
-            eta: settings[1],
-            factor: settings[2],
-            tol_grad: settings[3],
-        },
+        settings: Settings::of(choice, settings[0], settings[1], settings[2], settings[3]),
         state: crate::state_in(phase, numbers),
     }
 }

@@ -13,13 +13,9 @@ ghost use Rattle.foreign_sessions.specs.TrustRegion.{session-in, starts,
 fn session_in(phase: u64, words: &[u64; 5], numbers: &[f64; 6], settings: &[f64; 3]) -> Session
     ensures { λ r. ⌜ r ≡ session-in phase (now (words .entry)) (now (numbers .entry)) (now (settings .entry)) ⌝ }
 {
+    let choice = crate::choice_in(phase <= 2, words, numbers);
     Session {
-        settings: Settings {
-            choice: crate::choice_in(phase <= 2, words, numbers),
-            radius: settings[0],
-            max_radius: settings[1],
-            eta: settings[2],
-        },
+        settings: Settings::of(choice, settings[0], settings[1], settings[2]),
         state: crate::state_in(phase, numbers),
     }
 }

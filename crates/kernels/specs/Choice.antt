@@ -13,9 +13,13 @@ use Rattle.kernels.specs.Steihaug.{steihaug}
 use Rattle.kernels.specs.declared.choice.Choice.{Choice}
 use Rattle.vectors.specs.declared.refusal.Refusal.the-variants.{Size, Setting}
 
+-- of what is told
+abbrev pub choice-of : (kernel : ℕ) → (epsilon : Float) → (limit : ℕ) → Choice
+choice-of kernel epsilon limit = record { kernel = kernel; epsilon = epsilon; limit = limit }
+
 -- "epsilon 1e-9 .. The iteration limit has no default here."
 abbrev pub by-default : (kernel limit : ℕ) → Choice
-by-default kernel limit = record { kernel = kernel; epsilon = billionth; limit = limit }
+by-default kernel limit = choice-of kernel billionth limit
 
 -- "Kernel 1 to 3 (Cauchy, Dogleg, Steihaug)"
 unfoldable pub known : (kernel : ℕ) → Bool

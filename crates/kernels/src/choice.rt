@@ -10,7 +10,7 @@ use vectors::refusal::Verdict;
 ghost use mathlib.Core.Path.{_≡_};
 ghost use Rattle.kernels.specs.Kernel.{Laid, Took, called};
 ghost use Rattle.kernels.specs.Choice as Definition;
-ghost use Rattle.kernels.specs.Choice.{by-default, in-range, door};
+ghost use Rattle.kernels.specs.Choice.{by-default, choice-of, in-range, door};
 
 // Which kernel, and what it is told beside the radius and its lists: epsilon and the limit are Steihaug's.
 pub struct Choice {
@@ -26,9 +26,16 @@ impl Choice {
     pub fn new(kernel: u64, limit: u64) -> Self
         ensures { λ r. ⌜ r ≡ by-default kernel limit ⌝ }
     {
+        Self::of(kernel, Self::EPSILON, limit)
+    }
+
+    // Of what is told. Whatever else a choice may come to hold gets its default here, and no caller need know it.
+    pub fn of(kernel: u64, epsilon: f64, limit: u64) -> Self
+        ensures { λ r. ⌜ r ≡ choice-of kernel epsilon limit ⌝ }
+    {
         Self {
             kernel: kernel,
-            epsilon: Self::EPSILON,
+            epsilon: epsilon,
             limit: limit,
         }
     }

@@ -326,10 +326,6 @@ pub fn steihaug(
     ensures { λ r. ⌜ Took (called (bounded epsilon limit) (Steihaug.steihaug epsilon limit) n radius (now (gradient .entry)) (now (hessian .entry)) (now (step .entry)) (now (scratch .entry)))
         r (now (step .entry)) (now (step .exit)) (now (scratch .entry)) (now (scratch .exit)) ⌝ }
 {
-    let choice = Choice {
-        kernel: 3,
-        epsilon: epsilon,
-        limit: limit,
-    };
+    let choice = Choice::of(3, epsilon, limit);
     choice::direct(choice, n, radius, gradient, hessian, step, scratch)
 }

@@ -12,6 +12,7 @@ use Rattle.kernels.specs.Choice.{by-default}
 use Rattle.kernels.specs.CauchyPoint.{cauchy-point}
 use Rattle.kernels.specs.Dogleg.{dogleg}
 use Rattle.kernels.specs.Steihaug.{steihaug}
+use Rattle.trustregion.specs.Settings.{settings-of}
 use Rattle.trustregion.specs.Session.{Judgement, judgement}
 use Rattle.trustregion.specs.declared.session.Session.{Session}
 use Rattle.offer.specs.declared.state.Phase.{Phase}
@@ -72,7 +73,7 @@ minus-zero-step = steps-to 0 ((minus 0 over 1) ∷ (minus 0 over 1) ∷ [])
 -- a session of the defaults but for max_radius: radius 2.5, and "f 10"
 abbrev session-of : (max-radius radius f : Float) → Phase → Session
 session-of max-radius radius f phase = record {
-  settings = record { choice = by-default 1 5; radius = one; «max_radius» = max-radius; eta = eighth };
+  settings = settings-of (by-default 1 5) one max-radius eighth;
   state = record { radius = radius; cost = f; phase = phase };
 }
 

@@ -9,8 +9,9 @@ use Rattle.vectors.specs.Vector.{zeros}
 use Rattle.vectors.specs.Refusal.{Answer, refused, given, number, room}
 use Rattle.kernels.specs.Choice as Choice
 use Rattle.vectors.specs.declared.refusal.Refusal.the-variants.{Size, Turn}
+use Rattle.offer.specs.State.{begin, in-phase}
 use Rattle.offer.specs.Run.{own, Call, Entry, run, final}
-use Rattle.sr1.specs.Settings.{by-default, chosen}
+use Rattle.sr1.specs.Settings.{settings-of, by-default, chosen}
 use Rattle.sr1.specs.Session.{start, proposal, next-radius, judgement}
 use Rattle.sr1.specs.Run.{Station, Request, propose, answer, Told, outcome, respond}
 use Rattle.sr1.specs.declared.session.Session.{Session}
@@ -25,7 +26,7 @@ unfolding round
 a over b = round binary64 false a b
 
 abbrev session : (radius f : Float) → Phase → Session
-session radius f phase = record { settings = by-default 1 5; state = record { radius = radius; cost = f; phase = phase } }
+session radius f phase = record { settings = by-default 1 5; state = in-phase phase (begin radius f) }
 
 -- ---- "ap > 0.75 keeps it if ‖s‖ ≤ 0.8·radius, else doubles; 0.1 ≤ ap ≤ 0.75 keeps; else, NaN too, halves"
 
@@ -87,7 +88,7 @@ numbered (given a) = 0
 
 -- a start at a radius
 abbrev begins : (radius f : Float) → ℕ
-begins radius f = numbered (start (record { choice = record { kernel = 1; epsilon = one; limit = 0 }; radius = radius; eta = thousandth; factor = half; «tol_grad» = neg nought }) f)
+begins radius f = numbered (start (settings-of (Choice.choice-of 1 one 0) radius thousandth half (neg nought)) f)
 
 -- a proposal asked of a session at a point of two numbers and a gradient
 abbrev asked : (radius f : Float) → Phase → ℕ → (point gradient : List Float) → ℕ

@@ -2,23 +2,22 @@
 use mathlib.Core.Bool.{Bool}
 use mathlib.Core.List.{List, [], _∷_}
 use Prim.Native.Nat.{ℕ}
-use lib.Ieee.{lt, le}
+use lib.Ieee.{Float, lt, le}
 use Rattle.float.specs.Numbers.{finite, magnitude}
 use Rattle.float.specs.Constants.{nought, one, hundredth, thousandth, half-thousandth, hundred-millionth}
 use Rattle.vectors.specs.Refusal.{all-hold}
 use Rattle.kernels.specs.Kernel.{Kernel, positive}
 use Rattle.kernels.specs.Choice as Choice
+use Rattle.kernels.specs.declared.choice.Choice as kernels
 use Rattle.sr1.specs.declared.settings.Settings.{Settings}
+
+-- of what is told
+abbrev pub settings-of : kernels.Choice → (radius eta factor tol-grad : Float) → Settings
+settings-of choice radius eta factor tol-grad = record { choice = choice; radius = radius; eta = eta; factor = factor; «tol_grad» = tol-grad }
 
 -- "The defaults belong to the settings themselves as fixed numbers: .. SR1 radius 1, eta 0.5·1e-3, factor 1e-8, tol_grad 1e-3; epsilon 1e-9 .. The iteration limit has no default here."
 abbrev pub by-default : (kernel limit : ℕ) → Settings
-by-default kernel limit = record {
-  choice = Choice.by-default kernel limit;
-  radius = one;
-  eta = half-thousandth;
-  factor = hundred-millionth;
-  «tol_grad» = thousandth;
-}
+by-default kernel limit = settings-of (Choice.by-default kernel limit) one half-thousandth hundred-millionth thousandth
 
 -- "Settings must be finite. Kernel 1 to 3 (Cauchy, Dogleg, Steihaug); radius .. > 0; .. eta of SR1 in (0, 0.01); denominator factor in (0, 1); tol_grad ≥ 0; epsilon > 0; Steihaug's iteration limit 0 to 10,000. SR1's radius is taken by magnitude first."
 abbrev pub ranges : Settings → List Bool

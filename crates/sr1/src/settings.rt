@@ -4,7 +4,7 @@ use kernels::choice::Choice;
 use kernels::kernel;
 use vectors::refusal;
 ghost use mathlib.Core.Path.{_≡_};
-ghost use Rattle.sr1.specs.Settings.{by-default, in-range};
+ghost use Rattle.sr1.specs.Settings.{by-default, settings-of, in-range};
 
 pub struct Settings {
     pub choice: Choice,
@@ -28,12 +28,25 @@ impl Settings {
         ensures { λ r. ⌜ r ≡ by-default kernel limit ⌝ }
     {
         let choice = Choice::new(kernel, limit);
+        Self::of(
+            choice,
+            Self::RADIUS,
+            Self::ETA,
+            Self::FACTOR,
+            Self::TOL_GRAD,
+        )
+    }
+
+    // Of what is told. Whatever else the settings may come to hold gets its default here, and no caller need know it.
+    pub fn of(choice: Choice, radius: f64, eta: f64, factor: f64, tol_grad: f64) -> Self
+        ensures { λ r. ⌜ r ≡ settings-of choice radius eta factor «tol_grad» ⌝ }
+    {
         Self {
             choice: choice,
-            radius: Self::RADIUS,
-            eta: Self::ETA,
-            factor: Self::FACTOR,
-            tol_grad: Self::TOL_GRAD,
+            radius: radius,
+            eta: eta,
+            factor: factor,
+            tol_grad: tol_grad,
         }
     }
 }

@@ -11,7 +11,7 @@ use Rattle.kernels.specs.Choice as Choice
 use Rattle.trustregion.specs.Settings.{by-default, chosen}
 use Rattle.trustregion.specs.Session.{proposal, next-radius, judgement}
 use Rattle.offer.specs.Run.{Trial, own, others, run, final, calls, lent-same}
-use Rattle.offer.specs.State.{begin}
+use Rattle.offer.specs.State.{begin, in-phase}
 use Rattle.trustregion.specs.Run.{Station, Request, propose, cost, derivatives, Call, respond, strike, trials}
 use Rattle.trustregion.specs.declared.session.Session.{Session}
 use Rattle.offer.specs.declared.state.Phase.{Phase}
@@ -90,7 +90,7 @@ numbered (refused r) = number r
 numbered (given a) = 0
 
 abbrev session : (radius f : Float) → Phase → Session
-session radius f phase = record { settings = by-default 1 5; state = record { radius = radius; cost = f; phase = phase } }
+session radius f phase = record { settings = by-default 1 5; state = in-phase phase (begin radius f) }
 
 -- a proposal asked of a session at the station's vectors but for the point, and an answer of F to one
 abbrev asked : (radius f : Float) → Phase → ℕ → (point : List Float) → ℕ

@@ -2,17 +2,22 @@
 use mathlib.Core.Bool.{Bool}
 use mathlib.Core.List.{List, [], _∷_}
 use Prim.Native.Nat.{ℕ}
-use lib.Ieee.{lt, le}
+use lib.Ieee.{Float, lt, le}
 use Rattle.float.specs.Numbers.{finite}
 use Rattle.float.specs.Constants.{nought, one, hundred, quarter, eighth}
 use Rattle.vectors.specs.Refusal.{all-hold}
 use Rattle.kernels.specs.Kernel.{Kernel, positive}
 use Rattle.kernels.specs.Choice as Choice
+use Rattle.kernels.specs.declared.choice.Choice as kernels
 use Rattle.trustregion.specs.declared.settings.Settings.{Settings}
+
+-- of what is told
+abbrev pub settings-of : kernels.Choice → (radius max-radius eta : Float) → Settings
+settings-of choice radius max-radius eta = record { choice = choice; radius = radius; «max_radius» = max-radius; eta = eta }
 
 -- "The defaults belong to the settings themselves as fixed numbers: radius 1, max_radius 100, eta 0.125; .. epsilon 1e-9 .. The iteration limit has no default here."
 abbrev pub by-default : (kernel limit : ℕ) → Settings
-by-default kernel limit = record { choice = Choice.by-default kernel limit; radius = one; «max_radius» = hundred; eta = eighth }
+by-default kernel limit = settings-of (Choice.by-default kernel limit) one hundred eighth
 
 -- "Settings must be finite. Kernel 1 to 3 (Cauchy, Dogleg, Steihaug); radius and max_radius > 0; eta of `TrustRegion` in [0, 0.25); .. epsilon > 0; Steihaug's iteration limit 0 to 10,000."
 abbrev pub ranges : Settings → List Bool

@@ -4,7 +4,7 @@ use kernels::choice::Choice;
 use kernels::kernel;
 use vectors::refusal;
 ghost use mathlib.Core.Path.{_≡_};
-ghost use Rattle.trustregion.specs.Settings.{by-default, in-range};
+ghost use Rattle.trustregion.specs.Settings.{by-default, settings-of, in-range};
 
 pub struct Settings {
     pub choice: Choice,
@@ -25,11 +25,18 @@ impl Settings {
         ensures { λ r. ⌜ r ≡ by-default kernel limit ⌝ }
     {
         let choice = Choice::new(kernel, limit);
+        Self::of(choice, Self::RADIUS, Self::MAX_RADIUS, Self::ETA)
+    }
+
+    // Of what is told. Whatever else the settings may come to hold gets its default here, and no caller need know it.
+    pub fn of(choice: Choice, radius: f64, max_radius: f64, eta: f64) -> Self
+        ensures { λ r. ⌜ r ≡ settings-of choice radius «max_radius» eta ⌝ }
+    {
         Self {
             choice: choice,
-            radius: Self::RADIUS,
-            max_radius: Self::MAX_RADIUS,
-            eta: Self::ETA,
+            radius: radius,
+            max_radius: max_radius,
+            eta: eta,
         }
     }
 }

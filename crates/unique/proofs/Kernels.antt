@@ -21,6 +21,7 @@ table =
     ∷ unique kernels.dogleg.dogleg.ended (λ M. kernels.dogleg.dogleg.spec) (λ w κs a g r. refl) (λ κs a r r₂ s s₂ p q. let e = took p q in (e .0, λ i. tt & tt & tt & tt & e .1 i & e .2 i & tt))
     ∷ unique kernels.steihaug.steihaug.ended (λ M. kernels.steihaug.steihaug.spec) (λ w κs a g r. refl) (λ κs a r r₂ s s₂ p q. let e = took p q in (e .0, λ i. tt & tt & tt & tt & tt & tt & e .1 i & e .2 i & tt))
     ∷ equation kernels.choice.Choice.new.ended (λ M. kernels.choice.Choice.new.spec) (λ w κs a g r. refl) (λ κs a s s₂. refl)
+    ∷ equation kernels.choice.Choice.of.ended (λ M. kernels.choice.Choice.of.spec) (λ w κs a g r. refl) (λ κs a s s₂. refl)
     ∷ equation kernels.choice.«in_range».ended (λ M. kernels.choice.«in_range».spec) (λ w κs a g r. refl) (λ κs a s s₂. refl)
     ∷ unique kernels.choice.«lay_unchecked».ended (λ M. kernels.choice.«lay_unchecked».spec) (λ w κs a g r. refl) (λ κs a r r₂ s s₂ p q. (alike (p .says) (q .says), λ i. tt & tt & tt & tt & tt & alike (p .lays) (q .lays) i & tt))
     ∷ unique kernels.choice.direct.ended (λ M. kernels.choice.direct.spec) (λ w κs a g r. refl) (λ κs a r r₂ s s₂ p q. let e = took p q in (e .0, λ i. tt & tt & tt & tt & tt & e .1 i & e .2 i & tt))

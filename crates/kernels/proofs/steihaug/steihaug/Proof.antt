@@ -4,6 +4,9 @@ use Rattle.kernels.specs.Choice.{known, in-range, asked, kernel}
 use Rattle.kernels.proofs.steihaug.steihaug.Statement.{statement}
 use Rattle.kernels.proofs.steihaug.steihaug.Tie as tie
 
-pub steihaug-spec : {M : Type 1} → statement M
+returns : tie.Need-returns
 unfolding known in-range asked kernel
-steihaug-spec = tie.close (tie.spec (λ c κs. search needs) (λ c. search needs) (λ c. search needs) (λ c. c .before .before .before .before .direct .ensures))
+returns c = let asked = c .before .before .before .before in rw (asked .before .before .before .of .ensures) at (asked .direct .ensures)
+
+pub steihaug-spec : {M : Type 1} → statement M
+steihaug-spec = tie.close (tie.spec (λ c κs. search needs) (λ c κs. search needs) (λ c. search needs) (λ c. search needs) returns)
