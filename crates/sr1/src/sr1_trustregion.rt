@@ -85,7 +85,7 @@ fn converged(s: Session, gradient: &[f64]) -> bool
     vector::norm_any(gradient) < s.settings.tol_grad
 }
 
-// A step and the trial point, unless the session is done.
+// A step and the trial point, unless the session is done: of such a one refusals 1 to 4 are asked, and no others.
 pub fn proposed(
     s: Session,
     n: usize,
