@@ -14,7 +14,7 @@ use lib.Seq.{take-nil, take-add, take-all, drop-drop, length-take-le, getD-take,
 use lib.Ieee.{Float, nan, lt}
 use borrow.Author.Tests.{eqb-true, eqb-false, eq-eqb, ne-eqb, ltb-true, ltb-false}
 use Rattle.float.specs.Numbers.{magnitude}
-use Rattle.vectors.specs.Vector.{at, tab, flat}
+use Rattle.vectors.specs.Vector.{at, tab, over, flat}
 use Rattle.vectors.specs.Slots.{slot, Puts}
 use Rattle.vectors.specs.Refusal.{Answer, refused, given, then, room, Roomy}
 use Rattle.kernels.specs.Workspace.{each}
@@ -64,30 +64,53 @@ rows-put w w′ n k v a = fun-ext (λ i. a (4 + i) ∙ rw (shift i k))
 rows-spare : (w w′ : List Float) (n : ℕ) (v : List Float) → Puts w (n + n) 0 v w′ → rows-in w′ n ≡ rows-in w n
 rows-spare w w′ n v a = fun-ext (λ i. a (4 + i) ∙ rw (row-not-spare i))
 
-pub swaps : (w w₁ w₂ w₃ : List Float) (n j p : ℕ) → Roomy n (length w) → j < n → p < n
-    → Puts w (n + n) 0 (each (n + n) Same (slot w (n + n) (4 + j)) (slot w (n + n) (4 + j))) w₁
-    → Puts w₁ (n + n) (4 + j) (each (n + n) Same (slot w₁ (n + n) (4 + p)) (slot w₁ (n + n) (4 + p))) w₂
-    → Puts w₂ (n + n) (4 + p) (each (n + n) Same (slot w₂ (n + n) 0) (slot w₂ (n + n) 0)) w₃
-    → rows-in w₃ n ≡ swapped (rows-in w n) j p
-unfolding swapped
-swaps w w₁ w₂ w₃ n j p r hj hp a b c =
+-- row p takes the numbers of row j
+pub moves-row : (w w₁ : List Float) (n j p : ℕ) → Roomy n (length w) → j < n → Puts w (n + n) (4 + p) (each (n + n) Same (slot w (n + n) (4 + j)) (slot w (n + n) (4 + j))) w₁
+    → (rows-in w₁ n ≡ with-row (rows-in w n) p (rows-in w n j)) × (slot w₁ (n + n) 0 ≡ slot w (n + n) 0)
+moves-row w w₁ n j p r h a =
     let m = n + n in
-    let same : (i : ℕ) → i < n → each m Same (slot w m (4 + i)) (slot w m (4 + i)) ≡ slot w m (4 + i) = λ i h. each-same m (slot w m (4 + i)) (slot w m (4 + i)) (length-slot w m (4 + i) (row-room r i h)) in
-    let held : slot w₂ m 0 ≡ slot w m (4 + j) = b 0 ∙ rw (spare-not-row j) (a 0 ∙ same j hj) in
-    let other : slot w₁ m (4 + p) ≡ slot w m (4 + p) = a (4 + p) ∙ rw (row-not-spare p) in
-    rows-put w₂ w₃ n p _ c ∙ rw (held, same j hj, rows-put w₁ w₂ n j _ b, other, same p hp, rows-spare w w₁ n _ a)
+    let same : each m Same (slot w m (4 + j)) (slot w m (4 + j)) ≡ slot w m (4 + j) = each-same m (slot w m (4 + j)) (slot w m (4 + j)) (length-slot w m (4 + j) (row-room r j h)) in
+    (rows-put w w₁ n p _ a ∙ rw same, a 0 ∙ rw (spare-not-row p))
 
-pub divides : (w w₁ w₂ : List Float) (n j : ℕ) (x : Float) → Roomy n (length w₁) → x ≡ entry (rows-in w n) j j
-    → Puts w (n + n) 0 (each (n + n) (Over x) (slot w (n + n) (4 + j)) (slot w (n + n) (4 + j))) w₁
-    → Puts w₁ (n + n) (4 + j) (each (n + n) Same (slot w₁ (n + n) 0) (slot w₁ (n + n) 0)) w₂
-    → (rows-in w₂ n ≡ divided n (rows-in w n) j) × (slot w₂ (n + n) 0 ≡ rows-in w₂ n j)
-unfolding divided
-divides w w₁ w₂ n j x r e a b =
+-- which it has already
+pub moves-none : (R : Rows) (j p : ℕ) → j ≡ p → R ≡ with-row R p (R j)
+moves-none R j p e = fun-ext (λ i. pick i (eqb i p) refl) where
+  pick : (i : ℕ) (b : Bool) → eqb i p ≡ b → R i ≡ cond b (R j) (R i)
+  pick i true h = ap R (eqb-true i p h ∙ sym e)
+  pick i false h = refl
+
+-- rows j and p swapped: row j, and the others
+swapped-at : (R : Rows) (j p : ℕ) → swapped R j p j ≡ R p
+unfolding swapped
+swapped-at R j p = pick (eqb j p) refl where
+  pick : (b : Bool) → eqb j p ≡ b → cond b (R j) (cond (eqb j j) (R p) (R j)) ≡ R p
+  pick true e = ap R (eqb-true j p e)
+  pick false e = rw (eq-eqb j j refl)
+
+swapped-with : (R : Rows) (j p : ℕ) (v : List Float) → with-row (with-row R p (R j)) j v ≡ with-row (swapped R j p) j v
+unfolding swapped
+swapped-with R j p v = fun-ext (λ i. pick i (eqb i j)) where
+  pick : (i : ℕ) (b : Bool) → cond b v (cond (eqb i p) (R j) (R i)) ≡ cond b v (cond (eqb i p) (R j) (cond b (R p) (R i)))
+  pick i true = refl
+  pick i false = refl
+
+pub takes-pivot : (w w₁ w₂ w₃ : List Float) (n j p : ℕ) (x : Float) → Roomy n (length w₂) → x ≡ entry (rows-in w n) p j
+    → Puts w (n + n) 0 (each (n + n) (Over x) (slot w (n + n) (4 + p)) (slot w (n + n) (4 + p))) w₁
+    → (rows-in w₂ n ≡ with-row (rows-in w₁ n) p (rows-in w₁ n j)) × (slot w₂ (n + n) 0 ≡ slot w₁ (n + n) 0)
+    → Puts w₂ (n + n) (4 + j) (each (n + n) Same (slot w₂ (n + n) 0) (slot w₂ (n + n) 0)) w₃
+    → (rows-in w₃ n ≡ divided n (swapped (rows-in w n) j p) j) × (slot w₃ (n + n) 0 ≡ rows-in w₃ n j)
+unfolding divided over
+takes-pivot w w₁ w₂ w₃ n j p x r e a b c =
     let m = n + n in
-    let same : each m Same (slot w₁ m 0) (slot w₁ m 0) ≡ slot w₁ m 0 = each-same m (slot w₁ m 0) (slot w₁ m 0) (length-slot w₁ m 0 (spare-room r)) in
-    let there : slot w₂ m (4 + j) ≡ slot w₁ m 0 = b (4 + j) ∙ rw (eq-eqb (4 + j) (4 + j) refl) same in
-    let spare : slot w₂ m 0 ≡ slot w₁ m 0 = b 0 ∙ rw (spare-not-row j) in
-    (rows-put w₁ w₂ n j _ b ∙ rw (same, a 0, rows-spare w w₁ n _ a, each-over, e), spare ∙ sym there)
+    let R = rows-in w n in
+    let old : rows-in w₁ n ≡ R = rows-spare w w₁ n _ a in
+    let moved : rows-in w₂ n ≡ with-row R p (R j) = b .0 ∙ ap (λ (S : Rows). with-row S p (S j)) old in
+    let same : each m Same (slot w₂ m 0) (slot w₂ m 0) ≡ slot w₂ m 0 = each-same m (slot w₂ m 0) (slot w₂ m 0) (length-slot w₂ m 0 (spare-room r)) in
+    let there : slot w₃ m (4 + j) ≡ slot w₂ m 0 = c (4 + j) ∙ rw (eq-eqb (4 + j) (4 + j) refl) same in
+    let spare : slot w₃ m 0 ≡ slot w₂ m 0 = c 0 ∙ rw (spare-not-row j) in
+    let put : rows-in w₃ n ≡ with-row (with-row R p (R j)) j (over m (R p) (entry R p j)) =
+    rows-put w₂ w₃ n j _ c ∙ rw (same, b .1, a 0, moved, each-over, e) in
+    (put ∙ swapped-with R j p _ ∙ rw (swapped-at R j p), spare ∙ sym there)
 
 pub clears : (w w₁ : List Float) (n j i : ℕ) (x : Float) → x ≡ entry (rows-in w n) i j → slot w (n + n) 0 ≡ rows-in w n j
     → Puts w (n + n) (4 + i) (each (n + n) (LessTimes x) (slot w (n + n) (4 + i)) (slot w (n + n) 0)) w₁
@@ -208,9 +231,9 @@ module _ (n j p : ℕ) (R : Rows) (x : Float) (e : p ≡ pivot-row n R j) (f : x
   unfolding column column-by found
   column-ends S t = rw (← e, ← f, t)
 
-  pub column-done : (R₁ R₂ R₃ : Rows) → no-pivot x ≡ false → R₁ ≡ swapped R j p → R₂ ≡ divided n R₁ j → R₃ ≡ cleared n R₂ j n → found true R₃ ≡ column n R j
+  pub column-done : (R₁ R₂ : Rows) → no-pivot x ≡ false → R₁ ≡ divided n (swapped R j p) j → R₂ ≡ cleared n R₁ j n → found true R₂ ≡ column n R j
   unfolding column column-by found
-  column-done R₁ R₂ R₃ t a b c = rw (← e, ← f, t, c, b, a)
+  column-done R₁ R₂ t a b = rw (← e, ← f, t, b, a)
 
 -- a column takes one from those that are left
 module _ (n j : ℕ) (R : Rows) (all : Answer Rows) (l : j < n) (inv : columns n (n - j) j R ≡ all) where

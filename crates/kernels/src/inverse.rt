@@ -60,27 +60,28 @@ fn no_pivot(x: f64) -> bool
     x == 0.0
 }
 
-// Rows j and p, by way of the scratch's first numbers.
-fn swap_rows(n: usize, w: &mut [f64], j: usize, p: usize)
+// Row p takes the numbers of row j. Mostly the pivot stands in its row already, and nothing is to be done.
+fn move_row(n: usize, w: &mut [f64], j: usize, p: usize)
     requires { ⌜ Roomy n (length (now w)) × (j < n) × (p < n) ⌝ }
-    ensures { λ _. ⌜ Inverse.rows-in (now (w .exit)) n ≡ Inverse.swapped (Inverse.rows-in (now (w .entry)) n) j p ⌝ }
+    ensures { λ _. ⌜ (Inverse.rows-in (now (w .exit)) n ≡ Inverse.with-row (Inverse.rows-in (now (w .entry)) n) p (Inverse.rows-in (now (w .entry)) n j))
+        × (slot (now (w .exit)) (n + n) 0 ≡ slot (now (w .entry)) (n + n) 0) ⌝ }
 {
-    let width = n + n;
-    let a = 4 + j;
-    let b = 4 + p;
-    workspace::each(width, w, 0, Op::Same, a, a);
-    workspace::each(width, w, a, Op::Same, b, b);
-    workspace::each(width, w, b, Op::Same, 0, 0);
+    if j == p {
+        return;
+    }
+    workspace::each(n + n, w, 4 + p, Op::Same, 4 + j, 4 + j);
 }
 
-// Row j over its pivot. It stays in the scratch's first numbers too.
-fn divide_row(n: usize, w: &mut [f64], j: usize)
-    requires { ⌜ Roomy n (length (now w)) × (j < n) ⌝ }
-    ensures { λ _. ⌜ (Inverse.rows-in (now (w .exit)) n ≡ Inverse.divided n (Inverse.rows-in (now (w .entry)) n) j)
+// Swaps rows j and p and divides row j by its pivot: row p over it, which goes by way of the scratch's first numbers and stays
+// there too, becomes row j.
+fn take_pivot(n: usize, w: &mut [f64], j: usize, p: usize)
+    requires { ⌜ Roomy n (length (now w)) × (j < n) × (p < n) ⌝ }
+    ensures { λ _. ⌜ (Inverse.rows-in (now (w .exit)) n ≡ Inverse.divided n (Inverse.swapped (Inverse.rows-in (now (w .entry)) n) j p) j)
         × (slot (now (w .exit)) (n + n) 0 ≡ Inverse.rows-in (now (w .exit)) n j) ⌝ }
 {
-    let pivot = entry(n, w, j, j);
-    workspace::each(n + n, w, 0, Op::Over(pivot), 4 + j, 4 + j);
+    let pivot = entry(n, w, p, j);
+    workspace::each(n + n, w, 0, Op::Over(pivot), 4 + p, 4 + p);
+    move_row(n, w, j, p);
     workspace::each(n + n, w, 4 + j, Op::Same, 0, 0);
 }
 
@@ -129,8 +130,7 @@ fn columns(n: usize, w: &mut [f64]) -> bool
         if no_pivot(entry(n, w, p, j)) {
             return false;
         }
-        swap_rows(n, w, j, p);
-        divide_row(n, w, j);
+        take_pivot(n, w, j, p);
         clear_rows(n, w, j);
         j += 1;
     }

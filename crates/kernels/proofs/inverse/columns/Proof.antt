@@ -52,21 +52,20 @@ returns c =
 loop-again : tie.Need-loop-again Inv-loop2 μ-loop2 Inv-loop μ-loop
 loop-again c =
     let cleared = c .before .before in
-    let divided = cleared .before .before .before .before in
-    let swapped = divided .before .before .before .before in
-    let tested = swapped .before .before in
+    let taken = cleared .before .before .before .before in
+    let tested = taken .before .before in
     let searched = tested .before .before .before .before in
     let turn = searched .before .before in
     let top = turn .before .loop .inv in
     let inv = searched .before .loop2 .inv in
     let p = pivot-found _ _ _ _ _ (inv .0) (inv .3) (searched .loop2-test .left) (inv .1) in
-    let long = cleared .clear-rows .kept .1 .0 ∙ divided .divide-row .kept .1 .0 ∙ swapped .swap-rows .kept .1 .0 in (
+    let long = cleared .clear-rows .kept .1 .0 ∙ taken .take-pivot .kept .1 .0 in (
       search needs,
       roomy-same (top .1) long,
       long ∙ top .2,
       columns-go _ _ _ _ (turn .loop-test .taken) (top .3) _ true
-          (column-done _ _ _ _ _ p (tested .before .before .entry3 .ensures) _ _ _ (sym (tested .before .no-pivot .ensures) ∙ tested .if2 .left)
-          (swapped .swap-rows .ensures) (divided .divide-row .ensures .0) (cleared .clear-rows .ensures))
+          (column-done _ _ _ _ _ p (tested .before .before .entry3 .ensures) _ _ (sym (tested .before .no-pivot .ensures) ∙ tested .if2 .left)
+          (taken .take-pivot .ensures .0) (cleared .clear-rows .ensures))
           refl,
     )
 
@@ -82,7 +81,7 @@ columns-spec =
     (λ c κs. search needs) (λ c κs. search needs)
     (λ c. c .before .before .before .before .before .before .before .loop .inv .2)
     returns
-    (λ c κs. search needs) (λ c κs. search needs) (λ c κs. search needs) (λ c. search needs) (λ c. search needs)
+    (λ c κs. search needs) (λ c κs. search needs) (λ c. search needs) (λ c. search needs)
     loop-again
     (λ c. c .before .loop .inv .2)
     (λ c. columns-end _ _ _ _ (c .loop-test .left) (c .before .loop .inv .3)))
