@@ -1,12 +1,12 @@
 -- What kernels share, over the values: their checks, the answers they may give, and how they end. Assumes nothing.
-use mathlib.Core.Path.{_≡_, refl, sym, _∙_, ap}
+use mathlib.Core.Path.{_≡_, refl, sym, _∙_, ap, subst}
 use mathlib.Core.Bool.{Bool, true, false, cond, not, _&&_}
 use mathlib.Core.List.{List, [], _∷_, _++_, append-nil}
 use Prim.Native.Nat.{ℕ, zero, suc, _+_, _*_, _-_, _≤_}
 use native.Mathlib.Omega.{arith}
 use lib.Dec.{eqb}
 use lib.ListN.{length, take, drop, length-drop, drop-of-length-le}
-use lib.Seq.{take-at, drop-at, take-all}
+use lib.Seq.{take-at, drop-append-add, take-all}
 use lib.Ieee.{Float}
 use borrow.Rule.Slice.PartMut.{midOf, putMid}
 use borrow.Author.Tests.{eqb-true}
@@ -161,7 +161,7 @@ module _ (n k passes : ℕ) (w u : List Float) (e : u ≡ slot w n k) where
 
 -- ---- how it ends for a direct caller
 
-slot-laid : (v u : List Float) (n : ℕ) → length v ≡ n → slot (v ++ u) n 0 ≡ v
+pub slot-laid : (v u : List Float) (n : ℕ) → length v ≡ n → slot (v ++ u) n 0 ≡ v
 unfolding slot
 slot-laid v u n e = let none : 0 * n ≡ 0 = omega arith in rw none (take-at v u n e)
 
@@ -170,11 +170,21 @@ unfolding zeros tab
 zeros-join zero b = let e : 0 + b ≡ b = omega arith in rw e
 zeros-join (suc a) b = let e : suc a + b ≡ suc (a + b) = omega arith in rw e (ap (λ (u : List Float). nought ∷ u) (zeros-join a b))
 
--- the step's place cleared, all is
-cleared-laid : (v : List Float) (n size : ℕ) → length v ≡ n → n ≤ size → zeros n ++ drop n (v ++ zeros (size - length v)) ≡ zeros size
-cleared-laid v n size e b =
-    let all : n + (size - n) ≡ size = omega arith in
-    rw (drop-at v (zeros (size - length v)) n e, e, zeros-join, all)
+drop-zeros : (k size : ℕ) → drop k (zeros size) ≡ zeros (size - k)
+unfolding zeros tab
+drop-zeros zero size = let e : size - 0 ≡ size = omega arith in rw e
+drop-zeros (suc k) zero = let e : 0 - suc k ≡ 0 = omega arith in rw e
+drop-zeros (suc k) (suc size) = let e : suc size - suc k ≡ size - k = omega arith in rw e (drop-zeros k size)
+
+-- the first k numbers cleared, the step's place among them, all is
+pub cleared-laid : (v : List Float) (k size : ℕ) → length v ≤ k → k ≤ size → zeros k ++ drop k (v ++ zeros (size - length v)) ≡ zeros size
+cleared-laid v k size a b =
+    let past : length v + (k - length v) ≡ k = omega arith in
+    let behind : drop k (v ++ zeros (size - length v)) ≡ zeros (size - length v - (k - length v)) =
+    subst (λ (x : ℕ). drop x (v ++ zeros (size - length v)) ≡ zeros (size - length v - (k - length v))) past
+    (drop-append-add v (zeros (size - length v)) (k - length v) ∙ drop-zeros (k - length v) (size - length v)) in
+    let all : k + (size - length v - (k - length v)) ≡ size = omega arith in
+    rw (behind, zeros-join, all)
 
 -- from what a kernel laid out in w₁ and `hand_over` made of it
 module _ (n : ℕ) (found r : Stepped) (step step′ w w₁ w′ : List Float) (l : length w₁ ≡ length w)
@@ -188,7 +198,7 @@ module _ (n : ℕ) (found r : Stepped) (step step′ w w₁ w′ : List Float) (
   took-one (given m) p laid = record {
     says = h .0 ∙ laid .says;
     leaves = h .1 ∙ ap (λ (s : Stepped). handed-over s (slot w₁ n 0) step) (laid .says) ∙ ap (λ (u : List Float). slot u n 0) (laid .lays) ∙ slot-laid (m .step) _ n p;
-    clears = h .2 ∙ ap (λ (s : Stepped). handed-over s (zeros n ++ drop n w₁) w₁) (laid .says) ∙ ap (λ (u : List Float). zeros n ++ drop n u) (laid .lays) ∙ cleared-laid (m .step) n (length w) p b;
+    clears = h .2 ∙ ap (λ (s : Stepped). handed-over s (zeros n ++ drop n w₁) w₁) (laid .says) ∙ ap (λ (u : List Float). zeros n ++ drop n u) (laid .lays) ∙ cleared-laid (m .step) n (length w) (omega arith) b;
   }
 
   pub took : (settings : Bool) (kernel : Kernel) (radius : Float) (g H : List Float) (v : Verdict) → v ≡ judged (kernel-checks settings n radius g H step w) → v ≡ Passed

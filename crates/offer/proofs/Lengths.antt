@@ -5,7 +5,8 @@ use mathlib.Core.List.{List, [], _∷_}
 use Prim.Native.Nat.{ℕ, _+_, _*_, _≤_}
 use native.Mathlib.Omega.{arith}
 use lib.Dec.{eqb}
-use lib.ListN.{length}
+use lib.ListN.{length, take}
+use lib.Seq.{length-take-le}
 use lib.Ieee.{Float}
 use borrow.Author.Tests.{eqb-true, eq-eqb}
 use Rattle.vectors.specs.Refusal.{all-hold, size, room, Square}
@@ -34,9 +35,13 @@ lent-true n x g h p t w e =
       scratch = eqb-true w (room n) (b .1 .1 .1 .0);
     }
 
--- what `hand_out` asks of it: the scratch has room for the step and the trial
-pub hand-out-ready : {n x g h p t w : ℕ} (w₁ : ℕ) → Lent n x g h p t w → w₁ ≡ w → (n + n ≤ w₁) × Square n h × (x ≡ n) × (g ≡ n) × (p ≡ n) × (t ≡ n)
-hand-out-ready {n} w₁ l e = (omega (arith, l .scratch), l .square, l .point, l .gradient, l .step, l .trial)
+-- the scratch has room for the step and the trial
+pub used-room : {n x g h p t w : ℕ} (w₁ : ℕ) → Lent n x g h p t w → w₁ ≡ w → n + n ≤ w₁
+used-room w₁ l e = omega (arith, l .scratch)
+
+-- what `hand_out` asks of what is lent, and of the part of the scratch that is used
+pub hand-out-ready : {n x g h p t w : ℕ} (w₁ : List Float) → Lent n x g h p t w → length w₁ ≡ w → (n + n ≤ length (take (n + n) w₁)) × Square n h × (x ≡ n) × (g ≡ n) × (p ≡ n) × (t ≡ n)
+hand-out-ready {n} w₁ l e = (omega (arith, length-take-le (n + n) w₁ (used-room _ l e)), l .square, l .point, l .gradient, l .step, l .trial)
 
 -- a vector takes the numbers of another of its length
 pub copied : (from to : List Float) → length to ≡ length from → replaced from to ≡ from

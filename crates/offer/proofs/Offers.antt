@@ -5,7 +5,7 @@ use mathlib.Core.List.{List, [], _∷_, _++_}
 use Prim.Native.Nat.{ℕ, _+_, _*_, _-_, _≤_}
 use native.Mathlib.Omega.{arith}
 use lib.ListN.{length, take, drop}
-use lib.Seq.{take-at}
+use lib.Seq.{take-take, length-take-le}
 use lib.Ieee.{Float, eq}
 use lib.Ieee.Bits.{is-true}
 use borrow.Author.Tests.{eq-eqb}
@@ -24,7 +24,7 @@ use Rattle.kernels.specs.declared.kernel.Stepped.the-variants as stepped
 use Rattle.vectors.proofs.Slots.{length-slot}
 use Rattle.vectors.proofs.Sizes.{size-test}
 use Rattle.kernels.proofs.Choices.{kernel-proper}
-use Rattle.kernels.proofs.Kernels.{unless-passed, unless-failed, early}
+use Rattle.kernels.proofs.Kernels.{unless-passed, unless-failed, early, slot-laid, cleared-laid}
 use Rattle.offer.specs.Offer.{all-sized, proposal-checks, Offer, offered, offer, step-checks, stepping}
 use Rattle.offer.specs.Calls.{replaced, offering, measured, Offers}
 use Rattle.offer.specs.declared.Asked.{Asked}
@@ -50,6 +50,11 @@ module _ (n : ℕ) (w : List Float) where
       let one : 1 * n ≡ n = omega arith in
       let long : n + n - n ≡ n = omega arith in
       rw (one, long)
+
+-- the step, in what is used of the scratch
+slot-part : (w : List Float) (n : ℕ) → slot (take (n + n) w) n 0 ≡ slot w n 0
+unfolding slot
+slot-part w n = let none : 0 * n ≡ 0 = omega arith in rw none (take-take n (n + n) w (omega arith))
 
 -- the trial was laid beside it
 module _ (n passes : ℕ) (point g H step trial w w₁ : List Float) (laid : Puts w n 1 (plus n (slot w n 0) point) w₁) (l : length w₁ ≡ length w) where
@@ -78,17 +83,13 @@ module _ (n passes : ℕ) (point g H step trial w w₁ : List Float) (laid : Put
 
 -- ---- the whole call
 
-slot-laid : (v u : List Float) (n : ℕ) → length v ≡ n → slot (v ++ u) n 0 ≡ v
-unfolding slot
-slot-laid v u n e = let none : 0 * n ≡ 0 = omega arith in rw none (take-at v u n e)
-
--- only the scratch's length counts
-scratch-same : (n : ℕ) (point : List Float) (m : Made) (w₁ w : List Float) → length w₁ ≡ length w → scratch-after (offer n point m) w₁ ≡ scratch-after (offer n point m) w
+-- of the scratch only the length counts, and where the used numbers of it are cleared, so are the others
+scratch-whole : (n : ℕ) (point : List Float) (m : Made) (u rest w : List Float) → zeros (length u) ++ rest ≡ zeros (length w) → scratch-after (offer n point m) u ++ rest ≡ scratch-after (offer n point m) w
 unfolding offer
-scratch-same n point m w₁ w l = pick (not (all-finite (plus n (m .step) point))) where
-  pick : (b : Bool) → scratch-after (cond b (refused Range) (given (offered n point m))) w₁ ≡ scratch-after (cond b (refused Range) (given (offered n point m))) w
-  pick true = ap zeros l
-  pick false = ap zeros l
+scratch-whole n point m u rest w e = pick (not (all-finite (plus n (m .step) point))) where
+  pick : (b : Bool) → scratch-after (cond b (refused Range) (given (offered n point m))) u ++ rest ≡ scratch-after (cond b (refused Range) (given (offered n point m))) w
+  pick true = e
+  pick false = e
 
 given-long : (n : ℕ) (b c : Bool) (a : Answer Made) (m : Made) → Proper n a → cond b (refused Size) (cond c (refused Setting) a) ≡ given m → length (m .step) ≡ n
 given-long n true c a m p e = absurd (let z : _≡_ {A = ℕ} 0 1 = cc in omega arith)
@@ -158,14 +159,25 @@ module _ (asked : Asked) (n : ℕ) (point g H step trial w : List Float) where
           go (refused x) h = let same : r ≡ x = (let both : stepped.Refused r ≡ stepped.Refused x = sym f ∙ h .says in cc) in record { says = ap Refused same; leaves-step = refl; leaves-trial = refl; leaves-scratch = h .lays }
           go (given m) h = absurd (let both : stepped.Refused r ≡ stepped.In (m .passes) = sym f ∙ h .says in let z : _≡_ {A = ℕ} 0 1 = cc in omega arith)
 
-        pub step-made : (passes : ℕ) (r : Offered) (step′ trial′ w′ : List Float) → found ≡ stepped.In passes → length w₁ ≡ length w
-            → Offers n g H (offer n point (made passes (slot w₁ n 0))) r step trial w₁ step′ trial′ w′
-            → Offers n g H (offering asked n point g H step trial w) r step trial w step′ trial′ w′
-        step-made passes r step′ trial′ w′ f l o = rw (checked, far) (go opened laid door-long) where
-          go : (a : Answer Made) → Laid a found w w₁ → ((m : Made) → a ≡ given m → length (m .step) ≡ n) → Offers n g H (then (offer n point) a) r step trial w step′ trial′ w′
+        pub step-made : (passes : ℕ) (r : Offered) (step′ trial′ u′ : List Float) → found ≡ stepped.In passes → length w₁ ≡ length w
+            → Offers n g H (offer n point (made passes (slot (take (n + n) w₁) n 0))) r step trial (take (n + n) w₁) step′ trial′ u′
+            → Offers n g H (offering asked n point g H step trial w) r step trial w step′ trial′ (u′ ++ drop (n + n) w₁)
+        step-made passes r step′ trial′ u′ f l o = rw (checked, far) (go opened laid door-long) where
+          go : (a : Answer Made) → Laid a found w w₁ → ((m : Made) → a ≡ given m → length (m .step) ≡ n) → Offers n g H (then (offer n point) a) r step trial w step′ trial′ (u′ ++ drop (n + n) w₁)
           go (refused x) h long = absurd (let both : stepped.In passes ≡ stepped.Refused x = sym f ∙ h .says in let z : _≡_ {A = ℕ} 0 1 = cc in omega arith)
           go (given m) h long =
               let count : passes ≡ m .passes = (let both : stepped.In passes ≡ stepped.In (m .passes) = sym f ∙ h .says in cc) in
-              let first : slot w₁ n 0 ≡ m .step = ap (λ (v : List Float). slot v n 0) (h .lays) ∙ slot-laid (m .step) _ n (long m refl) in
-              let o′ : Offers n g H (offer n point m) r step trial w₁ step′ trial′ w′ = rw (count, first) at o in
-              record { says = o′ .says; leaves-step = o′ .leaves-step; leaves-trial = o′ .leaves-trial; leaves-scratch = o′ .leaves-scratch ∙ scratch-same n point m w₁ w l }
+              let size : length (m .step) ≡ n = long m refl in
+              let room : n + n ≤ length w = omega (arith, lent .scratch) in
+              let first : slot (take (n + n) w₁) n 0 ≡ m .step =
+              slot-part w₁ n ∙ ap (λ (v : List Float). slot v n 0) (h .lays) ∙ slot-laid (m .step) _ n size in
+              let used : length (take (n + n) w₁) ≡ n + n = length-take-le (n + n) w₁ (omega arith) in
+              let behind : zeros (length (take (n + n) w₁)) ++ drop (n + n) w₁ ≡ zeros (length w) =
+              ap (λ (k : ℕ). zeros k ++ drop (n + n) w₁) used ∙ ap (λ (v : List Float). zeros (n + n) ++ drop (n + n) v) (h .lays) ∙ cleared-laid (m .step) (n + n) (length w) (omega arith) room in
+              let o′ : Offers n g H (offer n point m) r step trial (take (n + n) w₁) step′ trial′ u′ = rw (count, first) at o in
+              record {
+                says = o′ .says;
+                leaves-step = o′ .leaves-step;
+                leaves-trial = o′ .leaves-trial;
+                leaves-scratch = ap (λ (v : List Float). v ++ drop (n + n) w₁) (o′ .leaves-scratch) ∙ scratch-whole n point m (take (n + n) w₁) (drop (n + n) w₁) w behind;
+              }

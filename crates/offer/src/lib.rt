@@ -113,7 +113,9 @@ pub fn make_unchecked(
             match laid {
                 Stepped::Refused(r) => Offered::Refused(r),
                 Stepped::In(passes) => {
-                    hand_out(n, passes, point, gradient, hessian, step, trial, scratch)
+                    // behind the step the scratch is +0 already
+                    let used = &mut scratch[..n + n];
+                    hand_out(n, passes, point, gradient, hessian, step, trial, used)
                 }
             }
         }

@@ -1,10 +1,27 @@
 -- `offer::make_unchecked` meets its contract. Assumes nothing.
+use mathlib.Core.Path.{sym}
+use native.Mathlib.Omega.{arith}
+use lib.Seq.{length-take-le}
 use denote.Ref.{now}
 use borrow.Author.Needs.{needs}
-use Rattle.offer.proofs.Lengths.{hand-out-ready}
+use Rattle.offer.proofs.Lengths.{used-room, hand-out-ready}
 use Rattle.offer.proofs.Offers.{lent, no-checks, no-radius, no-step, step-made}
 use Rattle.offer.proofs.make_unchecked.Statement.{statement}
 use Rattle.offer.proofs.make_unchecked.Tie as tie
+
+add-used : tie.Need-add-used
+add-used c =
+    let told = c .before .before .before .before .before .before .before .before .before in
+    let a = told .before .before .before .before .before .before .before .before .before .before .before .before .before .before .args in
+    omega (arith, (lent (a .asked) (a .n) (now (a .point)) (now (a .gradient)) (now (a .hessian)) (now (a .step)) (now (a .trial)) (now (a .scratch)) _ (told .before .before .proposal .ensures) (told .enum-told .given .1)) .square .high)
+
+-- the kernel left the scratch its length
+used-there : tie.Need-slice-relend-prefix-used
+used-there c =
+    let laid = c .before .before .before .before .before in
+    let told = laid .before .before .before .before in
+    let a = told .before .before .before .before .before .before .before .before .before .before .before .before .before .before .args in
+    used-room _ (lent (a .asked) (a .n) (now (a .point)) (now (a .gradient)) (now (a .hessian)) (now (a .step)) (now (a .trial)) (now (a .scratch)) _ (told .before .before .proposal .ensures) (told .enum-told .given .1)) (laid .lay-unchecked .kept .1 .1 .1 .1 .1 .0)
 
 hand-out-requires : tie.Need-hand-out-requires
 hand-out-requires c κs =
@@ -43,6 +60,9 @@ make-unchecked-spec =
     (λ c. search needs) (λ c. search needs) (λ c. search needs)
     returns
     (λ c κs. search needs) (λ c. search needs) (λ c. search needs)
+    add-used
+    used-there
+    (λ c. sym (length-take-le _ _ (used-there (c .before))))
     hand-out-requires
     (λ c. search needs) (λ c. search needs) (λ c. search needs)
     (λ c. no-checks _ _ _ _ _ _ _ _ _ (c .before .before .before .proposal .ensures) _ (c .before .checks .given .1))
