@@ -1,5 +1,6 @@
 // Why a call is refused, and the sizes that every call asks for.
 ghost use mathlib.Core.Path.{_≡_};
+ghost use mathlib.Core.Bool.{_&&_};
 ghost use mathlib.Core.List.{[], _∷_};
 ghost use Prim.Native.Nat.{_*_};
 ghost use lib.Dec.{eqb};
@@ -45,18 +46,27 @@ pub fn number(r: Refusal) -> u64
     }
 }
 
-// Every test of a list holds.
+pub(crate) fn both(a: bool, b: bool) -> bool
+    ensures { λ r. ⌜ r ≡ (a && b) ⌝ }
+{
+    if a {
+        return b;
+    }
+    false
+}
+
+// Every test of a list holds. The loop runs to its end whatever it meets: mostly all hold, and the machine need not look at each
+// before it goes on.
 pub fn all_hold(tests: &[bool]) -> bool
     ensures { λ r. ⌜ r ≡ Table.all-hold (now (tests .entry)) ⌝ }
 {
+    let mut all = true;
     let mut i = 0;
     while i < tests.len() {
-        if !tests[i] {
-            return false;
-        }
+        all = both(all, tests[i]);
         i += 1;
     }
-    true
+    all
 }
 
 // n is 1 to 64.

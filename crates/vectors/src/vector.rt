@@ -26,15 +26,6 @@ pub fn value(x: Number) -> f64
     }
 }
 
-fn both(a: bool, b: bool) -> bool
-    ensures { λ r. ⌜ r ≡ (a && b) ⌝ }
-{
-    if a {
-        return b;
-    }
-    false
-}
-
 // No entry is a NaN or an infinity. The loop runs to the end of v whatever it meets, so that the machine
 // can take several entries at a time.
 pub fn all_finite(v: &[f64]) -> bool
@@ -43,7 +34,7 @@ pub fn all_finite(v: &[f64]) -> bool
     let mut all = true;
     let mut i = 0;
     while i < v.len() {
-        all = both(all, float::finite(v[i]));
+        all = refusal::both(all, float::finite(v[i]));
         i += 1;
     }
     all

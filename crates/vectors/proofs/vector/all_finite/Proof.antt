@@ -1,5 +1,5 @@
 -- `vectors::vector::all_finite` meets its contract. The loop's invariant: what was seen and what is left of v decide. Assumes nothing.
-use mathlib.Core.Bool.{Bool, true, false, _&&_}
+use mathlib.Core.Bool.{Bool, _&&_}
 use mathlib.Core.List.{List}
 use mathlib.Core.Path.{_≡_, refl, sym, _∙_, ap}
 use Prim.Native.Nat.{ℕ, _<_, _≤_, _+_, _-_}
@@ -11,6 +11,7 @@ use lib.Ieee.{Float, nan}
 use borrow.Author.Needs.{needs}
 use Rattle.float.specs.Numbers.{finite}
 use Rattle.vectors.specs.Vector.{at, all-finite}
+use Rattle.vectors.proofs.Sizes.{and-assoc, and-true}
 use Rattle.vectors.proofs.vector.all_finite.Statement.{statement}
 use Rattle.vectors.proofs.vector.all_finite.Tie as tie
 
@@ -19,14 +20,6 @@ Inv-loop v all₀ i₀ all i = (i ≤ length v) × ((all && all-finite (drop i v
 
 abbrev μ-loop : tie.MeasureT-loop
 μ-loop v all₀ i₀ all i = length v - i
-
-and-assoc : (a b c : Bool) → ((a && b) && c) ≡ (a && (b && c))
-and-assoc true b c = refl
-and-assoc false b c = refl
-
-and-true : (a : Bool) → (a && true) ≡ a
-and-true true = refl
-and-true false = refl
 
 module _ (v : List Float) (i : ℕ) (all : Bool) (inv : (all && all-finite (drop i v)) ≡ all-finite v) where
   -- what is left at i is the number at i and what is left after it
