@@ -1,6 +1,6 @@
 -- Laws of the update of the Hessian: z, the test of every new entry, and the writing of them. Assumes nothing.
 use mathlib.Core.Path.{_≡_, refl, sym, ap, _∙_}
-use mathlib.Core.Bool.{Bool, true, false, _&&_}
+use mathlib.Core.Bool.{Bool, true, false, _&&_, true≢false, false≢true}
 use mathlib.Core.List.{List, [], _∷_, _++_}
 use mathlib.Core.Logic.{dite}
 use Prim.Native.Nat.{ℕ, zero, suc, _+_, _*_, _<_, _≤_}
@@ -39,6 +39,18 @@ below-none test k h = absurd (omega (arith, h))
 
 pub below-more : (test : ℕ → Bool) (j : ℕ) → Below test j → test j ≡ true → Below test (j + 1)
 below-more test j held here k h = dite (decLt k j) (λ low. held k low) (λ high. let same : k ≡ j = omega (arith, h, high) in rw same here)
+
+-- `all` says whether it has, and where it has not, whether it holds throughout is false too
+abbrev pub Seen : (ℕ → Bool) → (throughout : Bool) → ℕ → (all : Bool) → Type 0
+Seen test throughout j all = (all ≡ true → Below test j) × (all ≡ false → throughout ≡ false)
+
+pub seen-none : (test : ℕ → Bool) (throughout : Bool) → Seen test throughout 0 true
+seen-none test throughout = (λ e. below-none test, λ e. absurd (true≢false e))
+
+pub seen-more : (test : ℕ → Bool) (throughout : Bool) (j : ℕ) (all here next : Bool) → Seen test throughout j all → here ≡ test j → (test j ≡ false → throughout ≡ false) → next ≡ (all && here)
+    → Seen test throughout (j + 1) next
+seen-more test throughout j true here next s e bad f = (λ t. below-more test j (s .0 refl) (sym e ∙ sym f ∙ t), λ t. bad (sym e ∙ sym f ∙ t))
+seen-more test throughout j false here next s e bad f = (λ t. absurd (false≢true (sym f ∙ t)), λ t. s .1 refl)
 
 -- ---- the entries of a row, and the rows
 

@@ -207,21 +207,24 @@ fn entry(x: f64, a: f64, b: f64, share: f64) -> f64
     x + a * b * share
 }
 
-// Whether each entry of row i will be finite.
+// Whether each entry of row i will be finite. The loop runs to the end of the row whatever it meets, so that the machine can
+// take several entries at a time.
 fn row_finite(n: usize, z: &[f64], share: f64, hessian: &[f64], i: usize) -> bool
     requires { ⌜ (i * n + n ≤ length (now hessian)) × (length (now z) ≡ n) × (i < n) ⌝ }
     ensures { λ r. ⌜ r ≡ all-finite (gained-row n (now (hessian .entry)) (now (z .entry)) share i) ⌝ }
 {
     let start = i * n;
     let a = z[i];
+    let mut all = true;
     let mut j = 0;
     while j < n {
-        if !float::finite(entry(hessian[start + j], a, z[j], share)) {
-            return false;
-        }
+        all = refusal::both(
+            all,
+            float::finite(entry(hessian[start + j], a, z[j], share)),
+        );
         j += 1;
     }
-    true
+    all
 }
 
 // Whether each entry will be finite.

@@ -33,6 +33,7 @@ wrote p q = (stood _ _ _ _ (alike (p .says) (q .says)), alike (p .leaves) (q .le
 pub table : List Line
 table =
     equation refusal.number.ended (λ M. refusal.number.spec) (λ w κs a g r. refl) (λ κs a s s₂. refl)
+    ∷ equation refusal.both.ended (λ M. refusal.both.spec) (λ w κs a g r. refl) (λ κs a s s₂. refl)
     ∷ equation refusal.«all_hold».ended (λ M. refusal.«all_hold».spec) (λ w κs a g r. refl) (λ κs a s s₂. refl)
     ∷ equation refusal.size.ended (λ M. refusal.size.spec) (λ w κs a g r. refl) (λ κs a s s₂. refl)
     ∷ equation refusal.vectors.ended (λ M. refusal.vectors.spec) (λ w κs a g r. refl) (λ κs a s s₂. refl)

@@ -46,7 +46,8 @@ pub fn number(r: Refusal) -> u64
     }
 }
 
-pub(crate) fn both(a: bool, b: bool) -> bool
+// Both tests hold.
+pub fn both(a: bool, b: bool) -> bool
     ensures { λ r. ⌜ r ≡ (a && b) ⌝ }
 {
     if a {
