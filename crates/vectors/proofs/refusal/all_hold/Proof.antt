@@ -1,5 +1,5 @@
 -- `vectors::refusal::all_hold` meets its contract. The loop's invariant: what was seen and what is left of the tests decide. Assumes nothing.
-use mathlib.Core.Path.{_≡_, refl, sym, _∙_, ap}
+use mathlib.Core.Path.{_≡_, refl, sym, _∙_}
 use mathlib.Core.Bool.{Bool, false, _&&_}
 use mathlib.Core.List.{List}
 use Prim.Native.Nat.{ℕ, suc, _<_, _≤_, _+_, _-_}
