@@ -44,6 +44,8 @@ double mboyaxin_reduction_ratio(double cost, double trial_cost, double model_sta
 /* of any lengths */
 double mboyaxin_dot_any(const double *a, mboyaxin_word a_length, const double *b, mboyaxin_word b_length);
 double mboyaxin_norm_any(const double *a, mboyaxin_word a_length);
+/* the largest magnitude: a NaN if one is there, +0 of none */
+double mboyaxin_largest(const double *v, mboyaxin_word v_length);
 
 /* ---- crates/foreign: the kernels, all of one shape; Cauchy and Dogleg pass over epsilon and limit */
 

@@ -49,8 +49,8 @@ const word sources[SOURCES] = {
     0x0000000000000001, 0x8010000000000000,
 };
 
-enum { RATIO, DOT, DOT_ANY, NORM, NORM_ANY, WEIGHTED, PRODUCT, INVERSE, FUNCTIONS };
-static const char *const names[FUNCTIONS] = { "reduction_ratio", "dot", "dot_any", "norm", "norm_any", "weighted_dot", "product", "inverse" };
+enum { RATIO, DOT, DOT_ANY, NORM, NORM_ANY, LARGEST, WEIGHTED, PRODUCT, INVERSE, FUNCTIONS };
+static const char *const names[FUNCTIONS] = { "reduction_ratio", "dot", "dot_any", "norm", "norm_any", "largest", "weighted_dot", "product", "inverse" };
 static word found[FUNCTIONS];
 
 static void look(int f, double x) {
@@ -129,6 +129,7 @@ static void see_made(void) {
         look(DOT_ANY, mboyaxin_dot_any(v, 4, v + 2, 2));
         if (mboyaxin_norm(4, v, 4, &x) == 0) look(NORM, x);
         look(NORM_ANY, mboyaxin_norm_any(v, 4));
+        look(LARGEST, mboyaxin_largest(v, 4));
         see_matrix(v, 2);
         for (word l = 0; l < SOURCES * SOURCES; l++) {
             list(d, 2, l);

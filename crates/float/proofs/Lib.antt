@@ -7,3 +7,4 @@ pub mod Order
 pub mod Values
 pub mod Signs
 pub mod Quarter
+pub mod Patterns

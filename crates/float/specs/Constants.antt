@@ -53,6 +53,10 @@ billionth = ofBits binary64 0x3e11_2e0b_e826_d695
 abbrev pub ten-epsilons : Float
 ten-epsilons = ofBits binary64 0x3ce4_0000_0000_0000
 
+-- of the largest magnitude in a matrix: no pivot is as small
+abbrev pub pivot-share : Float
+pivot-share = ofBits binary64 0x3d70_0000_0000_0000
+
 -- ---- what they mean
 
 -- a constant, and the fraction that it is
@@ -89,4 +93,5 @@ table =
     ∷ (hundred-millionth is 1 over 10 ^ 8)
     ∷ (billionth is 1 over 10 ^ 9)
     ∷ (ten-epsilons is 10 over 2 ^ 52)
+    ∷ (pivot-share is 1 over 2 ^ 40)
     ∷ []

@@ -1,6 +1,6 @@
 -- The arithmetic of document 01: each operation of IEEE 754's binary64 rounds once, and nothing is fused. Definitions only.
-use mathlib.Core.Bool.{Bool, true, false, cond}
-use lib.Ieee.{Float, nan, inf, fin, binary64, add, sub, mul, div, lt}
+use mathlib.Core.Bool.{Bool, true, false, cond, _||_}
+use lib.Ieee.{Float, nan, inf, fin, binary64, add, sub, mul, div, lt, isNan}
 
 infixl 65 _⊕_
 infixl 65 _⊖_
@@ -40,3 +40,8 @@ magnitude (fin s m e) = fin false m e
 -- The smaller of x and y, and x where they are equal or y is a NaN: Rust's x.min(y) for an x that is no NaN.
 unfoldable pub smaller : Float → Float → Float
 smaller x y = cond (lt y x) y x
+
+-- the larger of x and y, and a NaN where one of them is
+unfoldable pub larger : Float → Float → Float
+unfolding lt isNan
+larger x y = cond (isNan x || lt y x) x y

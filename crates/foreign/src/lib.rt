@@ -121,6 +121,13 @@ pub extern "C" fn mboyaxin_norm_any(a: &[f64]) -> f64
 }
 
 #[no_mangle]
+pub extern "C" fn mboyaxin_largest(v: &[f64]) -> f64
+    ensures { λ r. ⌜ r ≡ Vector.largest (now (v .entry)) ⌝ }
+{
+    vectors::vector::largest(v)
+}
+
+#[no_mangle]
 pub extern "C" fn mboyaxin_reduction_ratio(
     cost: f64,
     trial_cost: f64,

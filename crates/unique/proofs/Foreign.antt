@@ -17,6 +17,7 @@ table =
     ∷ unique foreign.«mboyaxin_weighted_dot».ended (λ M. foreign.«mboyaxin_weighted_dot».spec) (λ w κs a g r. refl) (λ κs a r r₂ s s₂ p q. (alike (p .says) (q .says), λ i. tt & tt & tt & tt & alike (p .leaves) (q .leaves) i & tt))
     ∷ equation foreign.«mboyaxin_dot_any».ended (λ M. foreign.«mboyaxin_dot_any».spec) (λ w κs a g r. refl) (λ κs a s s₂. refl)
     ∷ equation foreign.«mboyaxin_norm_any».ended (λ M. foreign.«mboyaxin_norm_any».spec) (λ w κs a g r. refl) (λ κs a s s₂. refl)
+    ∷ equation foreign.«mboyaxin_largest».ended (λ M. foreign.«mboyaxin_largest».spec) (λ w κs a g r. refl) (λ κs a s s₂. refl)
     ∷ equation foreign.«mboyaxin_reduction_ratio».ended (λ M. foreign.«mboyaxin_reduction_ratio».spec) (λ w κs a g r. refl) (λ κs a s s₂. refl)
     ∷ unique foreign.«mboyaxin_product».ended (λ M. foreign.«mboyaxin_product».spec) (λ w κs a g r. refl) (λ κs a r r₂ s s₂ p q. (alike (p .says) (q .says), λ i. tt & tt & tt & alike (p .leaves) (q .leaves) i & tt))
     ∷ unique foreign.«mboyaxin_inverse».ended (λ M. foreign.«mboyaxin_inverse».spec) (λ w κs a g r. refl) (λ κs a r r₂ s s₂ p q. (alike (p .filled .says) (q .filled .says), λ i. tt & tt & alike (p .filled .leaves) (q .filled .leaves) i & alike (p .clears) (q .clears) i & tt))

@@ -49,6 +49,7 @@ table =
     ∷ unique vector.product.ended (λ M. vector.product.spec) (λ w κs a g r. refl) (λ κs a r r₂ s s₂ p q. let e = wrote p q in (e .0, λ i. tt & tt & tt & e .1 i & tt))
     ∷ equation vector.«dot_any».ended (λ M. vector.«dot_any».spec) (λ w κs a g r. refl) (λ κs a s s₂. refl)
     ∷ equation vector.«norm_any».ended (λ M. vector.«norm_any».spec) (λ w κs a g r. refl) (λ κs a s s₂. refl)
+    ∷ equation vector.largest.ended (λ M. vector.largest.spec) (λ w κs a g r. refl) (λ κs a s s₂. refl)
     ∷ []
 
 -- The part of a matrix that `row` hands back has one content. Where it lies no contract says.

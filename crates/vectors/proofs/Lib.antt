@@ -2,3 +2,4 @@ pub mod Vectors
 pub mod Slots
 pub mod Sizes
 pub mod Ends
+pub mod Largest

@@ -4,7 +4,7 @@ use mathlib.Core.List.{List, [], _∷_, _++_}
 use Prim.Native.Nat.{ℕ, zero, suc}
 use lib.ListN.{length, getD}
 use lib.Ieee.{Float, nan}
-use Rattle.float.specs.Numbers.{_⊕_, _⊖_, _⊗_, _⊘_, finite}
+use Rattle.float.specs.Numbers.{_⊕_, _⊖_, _⊗_, _⊘_, finite, magnitude, larger}
 use Rattle.float.specs.Constants.{nought}
 use Rattle.root.specs.Root.{root}
 use Rattle.vectors.specs.Slots.{slot}
@@ -93,3 +93,16 @@ less n x a y = tab n (λ i. at x i ⊖ a ⊗ at y i)
 unfoldable pub flat : ℕ → (ℕ → List Float) → List Float
 flat zero f = []
 flat (suc k) f = flat k f ++ f k
+
+-- ---- the largest magnitude
+
+-- the largest magnitude among the first k numbers; +0 where there are none
+unfoldable pub largest-to : List Float → ℕ → Float
+unfolding larger magnitude
+largest-to v zero = nought
+largest-to v (suc k) = larger (magnitude (at v k)) (largest-to v k)
+
+-- "the largest magnitude": a NaN if one is there, otherwise +inf if an infinity is there; +0 of no numbers
+unfoldable pub largest : List Float → Float
+unfolding largest-to
+largest v = largest-to v (length v)

@@ -140,6 +140,23 @@ pub fn norm_any(a: &[f64]) -> f64
     root::root(dot_any(a, a))
 }
 
+// The largest magnitude of a list of any length, +0 of none: magnitudes are in the order of their bit patterns as whole numbers,
+// a NaN's above all. The loop has no jump, so that the machine can take several entries at a time.
+pub fn largest(v: &[f64]) -> f64
+    ensures { λ r. ⌜ r ≡ Vector.largest (now (v .entry)) ⌝ }
+{
+    let mut top: u64 = 0;
+    let mut i = 0;
+    while i < v.len() {
+        let bits = float::bits_of(v[i]) % 0x8000_0000_0000_0000;
+        if top < bits {
+            top = bits;
+        }
+        i += 1;
+    }
+    float::float_of(top)
+}
+
 // Number i of H·d.
 pub(crate) fn row_dot(n: usize, h: &[f64], i: usize, d: &[f64]) -> f64
     requires { ⌜ Square n (length (now h)) × (i < n) × (length (now d) ≡ n) ⌝ }
