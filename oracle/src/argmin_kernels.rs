@@ -1,7 +1,7 @@
 //! The three kernels as argmin's own files work them out, each run by an executor as argmin's
 //! `TrustRegion` runs its subproblem.
 
-use crate::argmin_vector::ZeroPivot;
+use crate::argmin_vector::NoPivot;
 use crate::step::{Call, Kernel};
 use crate::vector::{Matrix, Vector};
 use argmin::core::{Error, Executor, Gradient, Hessian, IterState, Solver, State};
@@ -56,7 +56,7 @@ where
 
 /// Document 01's number for an error. Any other error is none of its refusals, and ends the oracle.
 fn refusal(error: Error) -> u8 {
-    if error.is::<ZeroPivot>() {
+    if error.is::<NoPivot>() {
         6
     } else if error.is::<NoUsableRoot>() {
         7

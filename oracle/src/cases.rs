@@ -4,7 +4,7 @@
 use crate::input::words;
 use crate::random::{power_of_two, subnormal, with_exponent, Random, NANS};
 use crate::step::HEAD;
-use crate::vector::{root, Matrix, Vector};
+use crate::vector::{root, Matrix, Vector, PIVOT_SHARE};
 
 const MINUS: u64 = 1 << 63;
 const INFINITY: u64 = 0x7ff0_0000_0000_0000;
@@ -193,10 +193,49 @@ fn telling() -> Vec<Case> {
             cases.push(Case::new(STEIHAUG, 2.5, &g, &h).epsilon(epsilon));
         }
     }
+    cases.extend(pivots());
     // Limits at their end, with something to do in each pass.
     for limit in [0, 1, 2, 3, 10_000] {
         cases.push(Case::new(STEIHAUG, 1e9, &[1.0, 2.0, 3.0], &hilbert(3)).limit(limit));
     }
+    cases
+}
+
+/// A pivot at the bound of request Two, a number above it and one below it, of both signs: in the first column and in the
+/// second, with the largest entry beside it, above it or in another row and column, large and negative; with a bound that is
+/// subnormal, that rounds up, down and at a tie, and that rounds to 0; and two markers almost in line.
+fn pivots() -> Vec<Case> {
+    let mut cases = Vec::new();
+    let tiny = power_of_two(-1034);
+    for top in [1.0, -3.0, 1e300, 1.5 * tiny, 1.25 * tiny, 0.5 * tiny] {
+        let bound = Matrix::new(1, vec![top]).pivot_bound();
+        let beside = [
+            bound,
+            bound.next_up(),
+            bound.next_down().max(0.0),
+            0.5 * bound,
+            2.0 * bound,
+        ];
+        for x in beside.into_iter().flat_map(|x| [x, -x]) {
+            // In the first column: beside the largest entry, or in another row and column than it.
+            for h in [
+                [x, 0.0, 0.0, top],
+                [0.0, top, x, 0.0],
+                [x, top, 0.0, 0.5 * top],
+            ] {
+                cases.push(Case::new(DOGLEG, 1.0, &[top, 0.5 * top], &h));
+            }
+            // In the second: the pivot's own column has nothing as large.
+            let h = [top, 0.0, 0.0, x];
+            cases.push(Case::new(DOGLEG, 1.0, &[top, 0.5 * top], &h));
+        }
+    }
+    let line = [0.05, 0.05, 0.05, 0.05f64.next_up()];
+    cases.push(Case::new(DOGLEG, 1e18, &[0.02, 0.03], &line));
+    cases.push(Case::new(DOGLEG, 1.0, &[3.0, 4.0], &[0.0; 4]));
+    // A pivot that is a NaN, since numbers overflowed on the way, is not at most anything.
+    let h = [1e-300, 1e300, 0.0, 1.0, 1e300, 1e300, 0.0, 1.0, 1.0];
+    cases.push(Case::new(DOGLEG, 1.0, &[1.0, 1.0, 1.0], &h));
     cases
 }
 
@@ -275,8 +314,29 @@ const WRONG_NUMBERS: [u64; 7] = [
 
 const NOT_FINITE: [u64; 4] = [INFINITY, MINUS | INFINITY, NANS[1], NANS[4]];
 
+/// A Dogleg with this Hessian, and half the time with a gradient of its size, so that the step is a number.
+pub(crate) fn dogleg(random: &mut Random, h: &Matrix) -> Vec<u8> {
+    let n = h.size();
+    let largest = h.pivot_bound() / PIVOT_SHARE;
+    let g = if random.once_in(2) || largest == 0.0 {
+        gradient(random, n)
+    } else {
+        let e = largest.log2().floor() as i64;
+        let size = |random: &mut Random| random.between(-3, 3) + e;
+        (0..n)
+            .map(|_| {
+                let e = size(random).clamp(-1022, 1023);
+                with_exponent(random, e)
+            })
+            .collect()
+    };
+    let mut case = Case::new(DOGLEG, 1.0, &g, h.entries());
+    settings(random, &mut case);
+    case.bytes()
+}
+
 /// A random case: one in ten damaged.
-fn any(random: &mut Random) -> Vec<u8> {
+pub(crate) fn any(random: &mut Random) -> Vec<u8> {
     let case = match random.below(20) {
         0 => model_tie(random),
         1 => residue(random),
@@ -661,7 +721,8 @@ fn norms(case: &Case) -> Vec<f64> {
     let h = Matrix::new(n, case.h.clone());
     let norms = match case.kernel {
         CAUCHY => vec![],
-        DOGLEG => match h.inverse() {
+        // By the rule before request Two, so that a border is there for a pivot that is nearly zero too.
+        DOGLEG => match h.inverse_above(0.0) {
             // Dogleg's other border: pu, where its path bends.
             Some(inverse) => {
                 let bend = g.dot(&g) / g.weighted_dot(&h, &g) * g.norm();

@@ -19,6 +19,7 @@ pub mod input;
 pub mod leaves;
 #[cfg(all(test, feature = "argmin"))]
 mod outside;
+pub mod pivots;
 pub mod random;
 pub mod replay;
 pub mod roots;

@@ -2,8 +2,8 @@
 
 use oracle::step::{self, Answer};
 use oracle::{
-    calls, cases, damaged, decimals, fit, formulas, leaves, replay, roots, scripts, sessions,
-    slips, smooth, special, table,
+    calls, cases, damaged, decimals, fit, formulas, leaves, pivots, replay, roots, scripts,
+    sessions, slips, smooth, special, table,
 };
 use std::cell::RefCell;
 use std::env;
@@ -19,6 +19,9 @@ usage: oracle leaves [--counts]    answer the calls on standard input, as progra
        oracle damaged COUNT SEED   write an input of COUNT root calls and one damaged call
        oracle formulas             answer the input of program `step`, by document 01's formulas
        oracle cases COUNT SEED     write a batch of COUNT inputs of program `step`
+       oracle pivots COUNT SEED    the same: one in three is a Dogleg with a pivot near the bound
+       oracle pivot-calls COUNT SEED
+                                   write an input of COUNT inverses with a pivot near the bound
        oracle batch [--counts]     answer such a batch, by argmin's own code where that is built
                                    in, else by the formulas; --counts: and count the answers, on
                                    standard error
@@ -101,6 +104,8 @@ fn main() -> ExitCode {
                 "decimals" => write_all(&decimals::input(count, seed)),
                 "damaged" => write_all(&damaged::input(count, seed)),
                 "cases" => write_all(&cases::input(count, seed)),
+                "pivots" => write_all(&pivots::input(count, seed)),
+                "pivot-calls" => write_all(&pivots::calls(count, seed)),
                 "scripts" => write_all(&scripts::input(count, seed, None)),
                 "slips" => slips::report(count, seed, &mut io::stdout()),
                 #[cfg(feature = "argmin")]

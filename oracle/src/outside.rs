@@ -1,6 +1,7 @@
 //! What argmin's own code does with what document 01 refuses: the tests behind docs/DIFFERENCES.md.
 
 use crate::argmin_kernels::{solve, KernelState};
+use crate::argmin_vector::with_zero_pivots_alone;
 use crate::step::Call;
 use crate::step::Kernel::{self, Cauchy, Dogleg, Steihaug};
 use crate::vector::{Matrix, Vector};
@@ -38,6 +39,7 @@ fn told(solved: Result<(Vector, u64), u8>) -> String {
     match solved {
         Ok((step, _)) => format!("{:?}", step.0),
         Err(7) => "panic".to_string(),
+        Err(6) => "no inverse".to_string(),
         Err(_) => unreachable!("no other refusal here"),
     }
 }
@@ -94,7 +96,19 @@ fn entries_that_are_not_finite() {
     let broken = [NAN, 0.0, 0.0, 1.0];
     assert_eq!(step(Cauchy, 1.0, G, broken), "[-0.6000000000000001, -0.8]");
     let infinite = [INFINITY, 0.0, 0.0, 1.0];
-    assert_eq!(step(Dogleg, 1.0, G, infinite), "[0.0, -1.0]");
+    let plain = with_zero_pivots_alone(|| step(Dogleg, 1.0, G, infinite));
+    assert_eq!(plain, "[0.0, -1.0]");
+}
+
+/// Two thigh markers almost in line: the Hessian of 0.05·(a + b)²/2, but for the last place of one entry.
+#[test]
+fn two_markers_in_line() {
+    let h = [0.05, 0.05, 0.05, 0.05f64.next_up()];
+    let g = [0.02, 0.03];
+    let ours = || step(Dogleg, 1e18, g, h);
+    let before = with_zero_pivots_alone(ours);
+    assert_eq!(before, "[1441151880758558.0, -1441151880758558.5]");
+    assert_eq!(ours(), "no inverse");
 }
 
 #[test]

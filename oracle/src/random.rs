@@ -60,6 +60,16 @@ pub fn subnormal(random: &mut Random) -> u64 {
     shorter.max(1)
 }
 
+/// The bits of a number that arithmetic made, so that they are the same on every machine: an x86-64 sets the sign of a NaN that
+/// it makes, an Arm does not. By bits, since a compiler takes one NaN for another.
+pub fn made_bits(x: f64) -> u64 {
+    if x.is_nan() {
+        NANS[0]
+    } else {
+        x.to_bits()
+    }
+}
+
 /// NaN of both signs: the one that x86 makes, quiet and signalling ones, all digits and one digit.
 pub const NANS: [u64; 10] = [
     0x7ff8_0000_0000_0000,

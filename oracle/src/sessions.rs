@@ -3,7 +3,7 @@
 
 use crate::cases::{gradient, hessian, some_kind, whole};
 use crate::input::words;
-use crate::random::{with_exponent, Random, NANS};
+use crate::random::{made_bits, with_exponent, Random, NANS};
 use crate::replay::{self, Call};
 use crate::session::{Formulas, Kind, Phase, Settings, Station};
 use crate::vector::{Matrix, Vector};
@@ -295,7 +295,7 @@ pub(crate) fn trial_cost(random: &mut Random, station: &Station) -> f64 {
         station.settings.eta,
     ]);
     let cost = match random.below(16) {
-        0..12 => station.cost - ratio * fall,
+        0..12 => f64::from_bits(made_bits(station.cost - ratio * fall)),
         12 | 13 => f64::from_bits(random.pick(&NANS)),
         14 => whole(random, 20),
         _ => station.cost,

@@ -4,7 +4,7 @@
 use crate::cases::Cases;
 use crate::formulas;
 use crate::step::{self, Call, Kernel};
-use crate::vector::{root, Matrix, Vector};
+use crate::vector::{largest, root, Matrix, Vector, PIVOT_SHARE};
 use std::io::{self, Write};
 
 macro_rules! slips {
@@ -27,6 +27,13 @@ slips! {
     TauNotCapped: "Cauchy: tau not capped at 1",
     TauNan: "Cauchy: a NaN ratio is tau",
     CurvatureUnread: "Cauchy: w at most 0 not looked at",
+    PivotZero: "Dogleg: only a pivot of zero refused",
+    PivotStrict: "Dogleg: a pivot at the bound taken",
+    PivotShare: "Dogleg: 2^-41 for 2^-40",
+    PivotSigned: "Dogleg: a pivot's magnitude not taken",
+    PivotColumn: "Dogleg: the largest magnitude of the pivot's column",
+    PivotRows: "Dogleg: the largest magnitude of [H | I]",
+    PivotAnew: "Dogleg: the largest magnitude of the rows under way, anew in each column",
     BestScaled: "Dogleg: pb scaled to the radius where it is to be returned",
     BestTurned: "Dogleg: norm of pb >= radius for <=",
     BestStrict: "Dogleg: norm of pb < radius for <=",
@@ -130,8 +137,28 @@ impl Wrong {
         scaled(g, -tau * radius / norm)
     }
 
+    fn inverse(&self, h: &Matrix) -> Option<Matrix> {
+        let (n, bound) = (h.size(), h.pivot_bound());
+        match self.0 {
+            PivotZero => h.inverse_above(0.0),
+            PivotStrict => h.inverse_unless(|pivot, _, _| pivot.abs() < bound),
+            PivotShare => h.inverse_above(0.5 * PIVOT_SHARE * largest(h.entries())),
+            PivotSigned => h.inverse_unless(|pivot, _, _| pivot <= bound),
+            PivotColumn => h.inverse_unless(|pivot, _, j| {
+                let column: Vec<f64> = (0..n).map(|i| h.row(i)[j]).collect();
+                pivot.abs() <= PIVOT_SHARE * largest(&column)
+            }),
+            PivotRows => h.inverse_above(PIVOT_SHARE * largest(h.entries()).max(1.0)),
+            PivotAnew => h.inverse_unless(|pivot, rows, _| {
+                let left: Vec<f64> = rows.iter().flat_map(|row| row[..n].to_vec()).collect();
+                pivot.abs() <= PIVOT_SHARE * largest(&left)
+            }),
+            _ => h.inverse(),
+        }
+    }
+
     fn dogleg(&self, g: &Vector, h: &Matrix, radius: f64) -> Result<Vector, u8> {
-        let pb = scaled(&self.product(&h.inverse().ok_or(6)?, g), -1.0);
+        let pb = scaled(&self.product(&self.inverse(h).ok_or(6)?, g), -1.0);
         let norm = self.norm(&pb);
         let inside = match self.0 {
             BestTurned => norm >= radius,
@@ -343,7 +370,7 @@ mod tests {
 
     #[test]
     fn every_slip_is_told_apart() {
-        let counts = counts(2500, 1);
+        let counts = counts(2750, 1);
         for (&(slip, text), counted) in SLIPS.iter().zip(counts) {
             if slip == Nothing {
                 assert_eq!(counted, 0, "{text}");

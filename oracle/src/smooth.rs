@@ -1,7 +1,7 @@
 //! Inputs of program `replays`: fits of smooth functions, trial by trial, each some dozen trials long. The costs and the
 //! derivatives are those of the trial points, and some trials are answered with NaN.
 
-use crate::random::{with_exponent, Random};
+use crate::random::{made_bits, with_exponent, Random};
 use crate::replay::{self, Call};
 use crate::scripts::many;
 use crate::session::{Formulas, Kind, Phase, Settings, Station};
@@ -124,9 +124,9 @@ fn script(random: &mut Random, kind: u64) -> Vec<u64> {
         Kind::TrustRegion { max_radius } => vec![max_radius, settings.eta],
         Kind::Sr1 { factor, tol_grad } => vec![settings.eta, factor, tol_grad],
     };
-    let bits = |list: &[f64]| -> Vec<u64> { list.iter().map(|x| x.to_bits()).collect() };
+    let bits = |list: &[f64]| -> Vec<u64> { list.iter().map(|&x| made_bits(x)).collect() };
     script.extend(bits(&own));
-    script.extend([settings.epsilon.to_bits(), settings.limit, cost.to_bits()]);
+    script.extend([settings.epsilon.to_bits(), settings.limit, made_bits(cost)]);
     script.extend(bits(&point));
     script.extend(bits(&gradient.0));
     script.extend(bits(hessian.entries()));
@@ -145,7 +145,7 @@ fn script(random: &mut Random, kind: u64) -> Vec<u64> {
                 let found = valley.cost(&station.trial.0);
                 let found = if random.once_in(8) { f64::NAN } else { found };
                 let gradient = (kind == 2).then(|| valley.gradient(&station.trial.0));
-                script.extend([2, told, found.to_bits()]);
+                script.extend([2, told, made_bits(found)]);
                 script.extend(gradient.iter().flat_map(|g| bits(&g.0)));
                 Call::Cost(told, found, gradient)
             }

@@ -1,4 +1,4 @@
-//! Scripts of SR1TrustRegion sessions that chance would hardly make, for program `replays`.
+//! Scripts of sessions that chance would hardly make, for program `replays`.
 
 use crate::input::words;
 
@@ -40,6 +40,37 @@ impl Script {
         self.numbers(&[predicted, norm]);
         self
     }
+}
+
+/// The Dogleg of a session of this kind, with two markers almost in line: every proposal is refused by 6 and leaves the session
+/// as it was. A TrustRegion session begins with another Hessian, takes this one with its derivatives, and is out of turn then
+/// for a cost; in an SR1TrustRegion session it stands from the start.
+fn dogleg_in_line(kind: u64) -> Script {
+    let line = [0.05, 0.05, 0.05, 0.05f64.next_up()];
+    let mut script = Script(vec![kind, 2, 2]);
+    if kind == 1 {
+        script.numbers(&[1.0, 100.0, 0.125, 1e-9]);
+    } else {
+        script.numbers(&[1.0, 0.0005, 1e-8, 1e-3, 1e-9]);
+    }
+    script.0.push(5);
+    script.numbers(&[10.0, 0.0, 0.0, 0.3, 0.4]);
+    if kind == 1 {
+        script.numbers(&[1.0, 0.0, 0.0, 1.0]);
+        script = script.propose();
+        script.0.extend([2, 2]);
+        script.numbers(&[9.875]);
+        script.0.extend([3, 2]);
+        script.numbers(&[0.02, 0.03]);
+    }
+    script.numbers(&line);
+    script = script.propose().propose();
+    script.0.extend([2, 2]);
+    script.numbers(&[9.5]);
+    if kind == 2 {
+        script.numbers(&[0.02, 0.03]);
+    }
+    script
 }
 
 /// All of them, each with its length before it.
@@ -108,6 +139,8 @@ pub fn input() -> Vec<u8> {
         Script::start(-2.5, 1e-3, 10.0, [-3.0, -4.0])
             .propose()
             .answer(9.0, [1.0, 2.0]),
+        dogleg_in_line(1),
+        dogleg_in_line(2),
     ];
     let mut bytes = Vec::new();
     for Script(script) in scripts {

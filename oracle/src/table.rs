@@ -47,7 +47,7 @@ fn refused(number: u8) -> String {
         3 => "it is out of turn",
         4 => "a number that came with it is not finite",
         5 => "the radius is zero",
-        6 => "the Hessian has no inverse, a pivot is zero",
+        6 => "the Hessian has no inverse, a pivot is zero or nearly",
         7 => "no root leads to the edge of the region",
         _ => "a number of the result would not be finite",
     };

@@ -50,8 +50,28 @@ impl Matrix {
         Vector((0..self.size).map(|i| dot(self.row(i), &d.0)).collect())
     }
 
-    /// Gauss-Jordan on [H | I]; nothing if a pivot is zero.
+    /// Gauss-Jordan on [H | I]; nothing if a pivot's magnitude is at most 2^-40 times the largest
+    /// magnitude of H, a product that rounds once (document 02, request Two).
     pub fn inverse(&self) -> Option<Matrix> {
+        self.inverse_above(self.pivot_bound())
+    }
+
+    /// 2^-40 times the largest magnitude.
+    pub fn pivot_bound(&self) -> f64 {
+        PIVOT_SHARE * largest(&self.entries)
+    }
+
+    /// The same with this bound: with 0, nothing if a pivot is zero, which was the rule before.
+    pub fn inverse_above(&self, bound: f64) -> Option<Matrix> {
+        // A NaN is not at most anything.
+        self.inverse_unless(|pivot, _, _| pivot.abs() <= bound)
+    }
+
+    /// The same by this test of a pivot, the rows under way and the column.
+    pub fn inverse_unless(
+        &self,
+        refused: impl Fn(f64, &[Vec<f64>], usize) -> bool,
+    ) -> Option<Matrix> {
         let n = self.size;
         let mut rows: Vec<Vec<f64>> = (0..n)
             .map(|i| {
@@ -70,7 +90,7 @@ impl Matrix {
             }
             rows.swap(j, pivot_row);
             let pivot = rows[j][j];
-            if pivot == 0.0 {
+            if refused(pivot, &rows, j) {
                 return None;
             }
             for entry in &mut rows[j] {
@@ -92,6 +112,23 @@ impl Matrix {
         let entries = rows.iter().flat_map(|row| &row[n..]).copied().collect();
         Some(Matrix::new(n, entries))
     }
+}
+
+/// 2^-40.
+pub const PIVOT_SHARE: f64 = 1.0 / (1u64 << 40) as f64;
+
+/// The largest magnitude; a NaN if one is there.
+pub fn largest(list: &[f64]) -> f64 {
+    let mut top = 0.0;
+    for x in list {
+        if x.is_nan() {
+            return f64::NAN;
+        }
+        if x.abs() > top {
+            top = x.abs();
+        }
+    }
+    top
 }
 
 /// The hardware's square root: IEEE 754 wants it correctly rounded.
@@ -243,5 +280,35 @@ mod tests {
         let h = Matrix::new(2, vec![1.0, 2.0, 2.0, 4.0]);
         assert_eq!(h.inverse(), None);
         assert_eq!(Matrix::new(1, vec![-0.0]).inverse(), None);
+    }
+
+    #[test]
+    fn a_pivot_at_the_bound_is_none() {
+        let share = 2f64.powi(-40);
+        assert_eq!(PIVOT_SHARE.to_bits(), share.to_bits());
+        let diagonal = |a: f64, b: f64| Matrix::new(2, vec![a, 0.0, 0.0, b]);
+        for sign in [1.0, -1.0] {
+            assert_eq!(diagonal(-1.0, sign * share).inverse(), None);
+            assert_eq!(diagonal(1.0, sign * share.next_down()).inverse(), None);
+            assert!(diagonal(1.0, sign * share.next_up()).inverse().is_some());
+            // In the first column, the largest in another row and column.
+            let h = Matrix::new(2, vec![0.0, 8.0, sign * 8.0 * share, 0.0]);
+            assert_eq!(h.inverse(), None);
+        }
+        // The rule before took them.
+        assert!(diagonal(1.0, share).inverse_above(0.0).is_some());
+    }
+
+    #[test]
+    fn a_bound_may_round() {
+        // 2^-40 times 2^-1034 is the least number above zero; times 2^-1035 it is a tie, and rounds to 0.
+        let least = f64::from_bits(1);
+        let h = |top: f64, x: f64| Matrix::new(2, vec![x, 0.0, 0.0, top]);
+        let top = 2f64.powi(-1034);
+        assert_eq!(h(top, least).inverse(), None);
+        assert!(h(0.5 * top, least).inverse().is_some());
+        assert_eq!(h(0.5 * top, 0.0).inverse(), None);
+        // Rounded up to twice the least: 2^-40 times 1.5·2^-1034.
+        assert_eq!(h(1.5 * top, 2.0 * least).inverse(), None);
     }
 }

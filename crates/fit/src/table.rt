@@ -160,7 +160,7 @@ fn reason(page: &mut [u8], output: Output, r: Refusal) -> Output {
         Refusal::Pivot => stream::put_text(
             page,
             output,
-            b"the Hessian has no inverse, a pivot is zero\n",
+            b"the Hessian has no inverse, a pivot is zero or nearly\n",
         ),
         Refusal::Root => stream::put_text(
             page,

@@ -13,7 +13,7 @@ use Rattle.vectors.specs.Slots.{slot, Puts}
 use Rattle.kernels.specs.Workspace.{each}
 use Rattle.vectors.specs.Refusal.{refused, given}
 use Rattle.kernels.specs.Kernel.{made, handed-out, Proper, Laid}
-use Rattle.kernels.specs.Inverse.{Rows, found, column-by, column, columns, eliminated, inverse-times, entry, no-pivot, pivot-row, swapped, divided, cleared, start}
+use Rattle.kernels.specs.Inverse.{Rows, found, column-by, column, columns, eliminated, inverse-times, entry, pivot-bound, no-pivot, pivot-row, swapped, divided, cleared, start}
 use Rattle.kernels.specs.Dogleg.{candidates, keep, kept-from, bent, outside, unconstrained, dogleg-step, newton, dogleg}
 use Rattle.vectors.specs.declared.refusal.Refusal.the-variants.{Pivot}
 use Rattle.kernels.specs.declared.kernel.Stepped.{Stepped}
@@ -26,21 +26,21 @@ use Rattle.kernels.proofs.Kernels.{Late, then-late, then-proper, handed
 
 -- ---- the answers that it may give
 
-column-late : (n : ℕ) (R : Rows) (j : ℕ) → Late (column n R j)
+column-late : (bound : Float) (n : ℕ) (R : Rows) (j : ℕ) → Late (column bound n R j)
 unfolding column column-by
-column-late n R j = pick (no-pivot (entry R (pivot-row n R j) j)) (cleared n (divided n (swapped R j (pivot-row n R j)) j) j n) where
+column-late bound n R j = pick (no-pivot bound (entry R (pivot-row n R j) j)) (cleared n (divided n (swapped R j (pivot-row n R j)) j) j n) where
   pick : (b : Bool) (S : Rows) → Late (cond b (refused Pivot) (given S))
   pick true S = refl
   pick false S = tt
 
-columns-late : (n k j : ℕ) (R : Rows) → Late (columns n k j R)
+columns-late : (bound : Float) (n k j : ℕ) (R : Rows) → Late (columns bound n k j R)
 unfolding columns
-columns-late n zero j R = tt
-columns-late n (suc k) j R = then-late (columns n k (suc j)) (column n R j) (column-late n R j) (columns-late n k (suc j))
+columns-late bound n zero j R = tt
+columns-late bound n (suc k) j R = then-late (columns bound n k (suc j)) (column bound n R j) (column-late bound n R j) (columns-late bound n k (suc j))
 
 pub eliminated-late : (n : ℕ) (H : List Float) → Late (eliminated n H)
 unfolding eliminated
-eliminated-late n H = columns-late n n 0 (start n H)
+eliminated-late n H = columns-late (pivot-bound H) n n 0 (start n H)
 
 chosen-long : (n : ℕ) (b : Bool) (x y : List Float) → length x ≡ n → length y ≡ n → length (cond b x y) ≡ n
 chosen-long n true x y e f = e

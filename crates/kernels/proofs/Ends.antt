@@ -9,7 +9,7 @@ use lib.Ieee.{Float}
 use borrow.Author.Tests.{eqb-true}
 use Rattle.vectors.specs.Vector.{zeros, flat, all-finite}
 use Rattle.vectors.specs.Refusal.{Answer, given, all-hold, size, sized, room, Roomy, Ended}
-use Rattle.kernels.specs.Inverse.{Rows, found, start, columns, eliminated, right-row, inverse-answer}
+use Rattle.kernels.specs.Inverse.{Rows, found, start, pivot-bound, columns, eliminated, right-row, inverse-answer}
 use Rattle.vectors.proofs.Sizes.{each-holds, square-by}
 use Rattle.kernels.proofs.Rows.{found-none, found-rows}
 use Rattle.vectors.specs.declared.refusal.Refusal.the-variants.{Size, Entry, Pivot}
@@ -29,9 +29,9 @@ lent-true n h out scratch e =
     let s = square-by n h (t .0) (t .1 .0) in
     record { square = s .long; written = eqb-true out (n * n) (t .1 .1 .0); roomy = record { high = s .high; long = eqb-true scratch (room n) (t .1 .1 .1 .0) } }
 
-pub eliminates : (n : ℕ) (H : List Float) (R : Rows) (o : Answer Rows) → R ≡ start n H → o ≡ columns n n 0 R → o ≡ eliminated n H
+pub eliminates : (n : ℕ) (H : List Float) (bound : Float) (R : Rows) (o : Answer Rows) → bound ≡ pivot-bound H → R ≡ start n H → o ≡ columns bound n n 0 R → o ≡ eliminated n H
 unfolding eliminated
-eliminates n H R o e f = f ∙ ap (columns n n 0) e
+eliminates n H bound R o b e f = f ∙ rw (b, e)
 
 -- its four ends
 module _ (n : ℕ) (H out w : List Float) where

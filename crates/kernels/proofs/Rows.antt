@@ -226,33 +226,33 @@ found-rows false R o e h = cc
 
 -- ---- a column, and all of them
 
-module _ (n j p : ℕ) (R : Rows) (x : Float) (e : p ≡ pivot-row n R j) (f : x ≡ entry R p j) where
-  pub column-ends : (S : Rows) → no-pivot x ≡ true → found false S ≡ column n R j
+module _ (bound : Float) (n j p : ℕ) (R : Rows) (x : Float) (e : p ≡ pivot-row n R j) (f : x ≡ entry R p j) where
+  pub column-ends : (S : Rows) → no-pivot bound x ≡ true → found false S ≡ column bound n R j
   unfolding column column-by found
   column-ends S t = rw (← e, ← f, t)
 
-  pub column-done : (R₁ R₂ : Rows) → no-pivot x ≡ false → R₁ ≡ divided n (swapped R j p) j → R₂ ≡ cleared n R₁ j n → found true R₂ ≡ column n R j
+  pub column-done : (R₁ R₂ : Rows) → no-pivot bound x ≡ false → R₁ ≡ divided n (swapped R j p) j → R₂ ≡ cleared n R₁ j n → found true R₂ ≡ column bound n R j
   unfolding column column-by found
   column-done R₁ R₂ t a b = rw (← e, ← f, t, b, a)
 
 -- a column takes one from those that are left
-module _ (n j : ℕ) (R : Rows) (all : Answer Rows) (l : j < n) (inv : columns n (n - j) j R ≡ all) where
-  turn : (o : Answer Rows) → o ≡ column n R j → then (columns n (n - (j + 1)) (j + 1)) o ≡ all
+module _ (bound : Float) (n j : ℕ) (R : Rows) (all : Answer Rows) (l : j < n) (inv : columns bound n (n - j) j R ≡ all) where
+  turn : (o : Answer Rows) → o ≡ column bound n R j → then (columns bound n (n - (j + 1)) (j + 1)) o ≡ all
   unfolding columns
   turn o e =
       let more : n - j ≡ suc (n - (j + 1)) = omega arith in
       rw e (rw (add-one j) (rw (more, add-one j) at inv))
 
-  pub columns-stop : (S : Rows) (r : Bool) → found r S ≡ column n R j → not r ≡ true → found false S ≡ all
+  pub columns-stop : (S : Rows) (r : Bool) → found r S ≡ column bound n R j → not r ≡ true → found false S ≡ all
   unfolding found
-  columns-stop S r e h = turn (refused Pivot) (found-none r S (column n R j) e h)
+  columns-stop S r e h = turn (refused Pivot) (found-none r S (column bound n R j) e h)
 
-  pub columns-go : (S : Rows) (r : Bool) → found r S ≡ column n R j → not r ≡ false → columns n (n - (j + 1)) (j + 1) S ≡ all
-  columns-go S r e h = turn (given S) (found-rows r S (column n R j) e h)
+  pub columns-go : (S : Rows) (r : Bool) → found r S ≡ column bound n R j → not r ≡ false → columns bound n (n - (j + 1)) (j + 1) S ≡ all
+  columns-go S r e h = turn (given S) (found-rows r S (column bound n R j) e h)
 
-pub columns-end : (n j : ℕ) (R : Rows) (all : Answer Rows) → n ≤ j → columns n (n - j) j R ≡ all → found true R ≡ all
+pub columns-end : (bound : Float) (n j : ℕ) (R : Rows) (all : Answer Rows) → n ≤ j → columns bound n (n - j) j R ≡ all → found true R ≡ all
 unfolding columns found
-columns-end n j R all l inv = let none-left : n - j ≡ 0 = omega arith in rw none-left at inv
+columns-end bound n j R all l inv = let none-left : n - j ≡ 0 = omega arith in rw none-left at inv
 
 -- ---- the right half of a row, where it stands
 

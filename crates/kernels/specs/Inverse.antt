@@ -3,11 +3,11 @@ use mathlib.Core.Bool.{Bool, cond, not}
 use mathlib.Core.List.{List, [], _∷_}
 use Prim.Native.Nat.{ℕ, zero, suc, _+_, _*_, _-_}
 use lib.Dec.{eqb, ltb}
-use lib.Ieee.{Float, lt, eq}
-use Rattle.float.specs.Numbers.{magnitude}
-use Rattle.float.specs.Constants.{nought, one}
+use lib.Ieee.{Float, lt, le}
+use Rattle.float.specs.Numbers.{_⊗_, magnitude}
+use Rattle.float.specs.Constants.{nought, one, pivot-share}
 use Rattle.vectors.specs.Slots.{slot}
-use Rattle.vectors.specs.Vector.{at, tab, over, less, dot, flat, all-finite}
+use Rattle.vectors.specs.Vector.{at, tab, over, less, dot, flat, all-finite, largest}
 use Rattle.vectors.specs.Refusal.{Answer, refused, given, Check, _if_, unless, then, all-hold, size, sized, room}
 use Rattle.vectors.specs.declared.refusal.Refusal.the-variants.{Size, Entry, Pivot}
 
@@ -43,9 +43,15 @@ pivot-among R j (suc k) =
 abbrev pub pivot-row : ℕ → Rows → ℕ → ℕ
 pivot-row n R j = pivot-among R j (n - suc j)
 
--- "Zero pivot: refusal 6."
-unfoldable pub no-pivot : Float → Bool
-no-pivot x = eq x nought
+-- "2^-40 times the largest magnitude in H, taken before elimination begins; the product rounds once"
+unfoldable pub pivot-bound : List Float → Float
+unfolding largest
+pivot-bound H = pivot-share ⊗ largest H
+
+-- "refusal 6 is given when the pivot's magnitude is at most" that bound. A pivot that is a NaN is not: it goes on.
+unfoldable pub no-pivot : (bound x : Float) → Bool
+unfolding magnitude le
+no-pivot bound x = le (magnitude x) bound
 
 -- "Swap": rows j and p
 unfoldable pub swapped : Rows → ℕ → ℕ → Rows
@@ -68,24 +74,24 @@ cleared n R j zero = R
 cleared n R j (suc i) = let S = cleared n R j i in cond (eqb i j) S (cleared-row n S j i)
 
 -- column j, p its pivot row
-unfoldable pub column-by : ℕ → Rows → ℕ → ℕ → Answer Rows
+unfoldable pub column-by : (bound : Float) → ℕ → Rows → ℕ → ℕ → Answer Rows
 unfolding no-pivot swapped divided cleared
-column-by n R j p = cond (no-pivot (entry R p j)) (refused Pivot) (given (cleared n (divided n (swapped R j p) j) j n))
+column-by bound n R j p = cond (no-pivot bound (entry R p j)) (refused Pivot) (given (cleared n (divided n (swapped R j p) j) j n))
 
-unfoldable pub column : ℕ → Rows → ℕ → Answer Rows
+unfoldable pub column : (bound : Float) → ℕ → Rows → ℕ → Answer Rows
 unfolding column-by pivot-among
-column n R j = column-by n R j (pivot-row n R j)
+column bound n R j = column-by bound n R j (pivot-row n R j)
 
 -- k columns, from column j on
-unfoldable pub columns : ℕ → ℕ → ℕ → Rows → Answer Rows
+unfoldable pub columns : (bound : Float) → ℕ → ℕ → ℕ → Rows → Answer Rows
 unfolding column
-columns n zero j R = given R
-columns n (suc k) j R = then (columns n k (suc j)) (column n R j)
+columns bound n zero j R = given R
+columns bound n (suc k) j R = then (columns bound n k (suc j)) (column bound n R j)
 
 -- all columns of [H | I]
 unfoldable pub eliminated : ℕ → List Float → Answer Rows
-unfolding columns start
-eliminated n H = columns n n 0 (start n H)
+unfolding columns start pivot-bound
+eliminated n H = columns (pivot-bound H) n n 0 (start n H)
 
 -- the right half of row i: once all columns are done, row i of the inverse
 unfoldable pub right-row : ℕ → Rows → ℕ → List Float

@@ -53,11 +53,19 @@ fn entry(n: usize, w: &[f64], i: usize, j: usize) -> f64
     w[from + j]
 }
 
-// The one place that says which pivots end in refusal 6.
-fn no_pivot(x: f64) -> bool
-    ensures { λ r. ⌜ r ≡ Inverse.no-pivot x ⌝ }
+// A pivot at most this large counts as none. It is worked out once, before the rows change.
+fn pivot_bound(h: &[f64]) -> f64
+    ensures { λ r. ⌜ r ≡ Inverse.pivot-bound (now (h .entry)) ⌝ }
 {
-    x == 0.0
+    // 2^-40
+    9.094947017729282e-13 * vector::largest(h)
+}
+
+// The one place that says which pivots end in refusal 6.
+fn no_pivot(bound: f64, x: f64) -> bool
+    ensures { λ r. ⌜ r ≡ Inverse.no-pivot bound x ⌝ }
+{
+    float::magnitude(x) <= bound
 }
 
 // Row p takes the numbers of row j. Mostly the pivot stands in its row already, and nothing is to be done.
@@ -110,9 +118,9 @@ fn clear_rows(n: usize, w: &mut [f64], j: usize)
 }
 
 // Column after column; false where one has no pivot.
-fn columns(n: usize, w: &mut [f64]) -> bool
+fn columns(n: usize, w: &mut [f64], bound: f64) -> bool
     requires { ⌜ Roomy n (length (now w)) ⌝ }
-    ensures { λ r. ⌜ Inverse.found r (Inverse.rows-in (now (w .exit)) n) ≡ Inverse.columns n n 0 (Inverse.rows-in (now (w .entry)) n) ⌝ }
+    ensures { λ r. ⌜ Inverse.found r (Inverse.rows-in (now (w .exit)) n) ≡ Inverse.columns bound n n 0 (Inverse.rows-in (now (w .entry)) n) ⌝ }
 {
     let mut j = 0;
     while j < n {
@@ -127,7 +135,7 @@ fn columns(n: usize, w: &mut [f64]) -> bool
             }
             i += 1;
         }
-        if no_pivot(entry(n, w, p, j)) {
+        if no_pivot(bound, entry(n, w, p, j)) {
             return false;
         }
         take_pivot(n, w, j, p);
@@ -147,7 +155,7 @@ pub(crate) fn eliminate(n: usize, w: &mut [f64], h: &[f64]) -> bool
         start_row(n, w, i, h);
         i += 1;
     }
-    columns(n, w)
+    columns(n, w, pivot_bound(h))
 }
 
 // The right half of row i, as that part of w.

@@ -16,16 +16,16 @@ use Rattle.kernels.proofs.inverse.columns.Statement.{statement}
 use Rattle.kernels.proofs.inverse.columns.Tie as tie
 
 abbrev Inv-loop2 : tie.InvT-loop2
-Inv-loop2 n w j p₀ i₀ p i = (suc j ≤ i) × (i ≤ n) × (p < n) × (p ≡ pivot-among (rows-in w n) j (i - suc j))
+Inv-loop2 n w bound j p₀ i₀ p i = (suc j ≤ i) × (i ≤ n) × (p < n) × (p ≡ pivot-among (rows-in w n) j (i - suc j))
 
 abbrev μ-loop2 : tie.MeasureT-loop2
-μ-loop2 n w j p₀ i₀ p i = n - i
+μ-loop2 n w bound j p₀ i₀ p i = n - i
 
 abbrev Inv-loop : tie.InvT-loop
-Inv-loop n w₀ j₀ w j = (j ≤ n) × Roomy n (length w) × (length w ≡ length w₀) × (columns n (n - j) j (rows-in w n) ≡ columns n n 0 (rows-in w₀ n))
+Inv-loop n w₀ bound j₀ w j = (j ≤ n) × Roomy n (length w) × (length w ≡ length w₀) × (columns bound n (n - j) j (rows-in w n) ≡ columns bound n n 0 (rows-in w₀ n))
 
 abbrev μ-loop : tie.MeasureT-loop
-μ-loop n w₀ j₀ w j = n - j
+μ-loop n w₀ bound j₀ w j = n - j
 
 loop2-again : tie.Need-loop2-again Inv-loop2 μ-loop2 Inv-loop μ-loop
 loop2-again c =
@@ -45,8 +45,8 @@ returns c =
     let turn = searched .before .before in
     let inv = searched .before .loop2 .inv in
     let p = pivot-found _ _ _ _ _ (inv .0) (inv .3) (searched .loop2-test .left) (inv .1) in
-    columns-stop _ _ _ _ (turn .loop-test .taken) (turn .before .loop .inv .3) _ false
-    (column-ends _ _ _ _ _ p (c .before .before .entry3 .ensures) _ (sym (c .before .no-pivot .ensures) ∙ c .if2 .taken)) refl
+    columns-stop _ _ _ _ _ (turn .loop-test .taken) (turn .before .loop .inv .3) _ false
+    (column-ends _ _ _ _ _ _ p (c .before .before .entry3 .ensures) _ (sym (c .before .no-pivot .ensures) ∙ c .if2 .taken)) refl
 
 -- on to the next column
 loop-again : tie.Need-loop-again Inv-loop2 μ-loop2 Inv-loop μ-loop
@@ -63,8 +63,8 @@ loop-again c =
       search needs,
       roomy-same (top .1) long,
       long ∙ top .2,
-      columns-go _ _ _ _ (turn .loop-test .taken) (top .3) _ true
-          (column-done _ _ _ _ _ p (tested .before .before .entry3 .ensures) _ _ (sym (tested .before .no-pivot .ensures) ∙ tested .if2 .left)
+      columns-go _ _ _ _ _ (turn .loop-test .taken) (top .3) _ true
+          (column-done _ _ _ _ _ _ p (tested .before .before .entry3 .ensures) _ _ (sym (tested .before .no-pivot .ensures) ∙ tested .if2 .left)
           (taken .take-pivot .ensures .0) (cleared .clear-rows .ensures))
           refl,
     )
@@ -84,4 +84,4 @@ columns-spec =
     (λ c κs. search needs) (λ c κs. search needs) (λ c. search needs) (λ c. search needs)
     loop-again
     (λ c. c .before .loop .inv .2)
-    (λ c. columns-end _ _ _ _ (c .loop-test .left) (c .before .loop .inv .3)))
+    (λ c. columns-end _ _ _ _ _ (c .loop-test .left) (c .before .loop .inv .3)))

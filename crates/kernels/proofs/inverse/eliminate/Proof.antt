@@ -19,11 +19,12 @@ abbrev μ-loop : tie.MeasureT-loop
 
 returns : tie.Need-returns Inv-loop μ-loop
 returns c =
-    let left = c .before .before .before .before in
+    let bounded = c .before .before .before in
+    let left = bounded .before .before in
     let s = left .before .before .before .before in
     let l = left .before .loop in
     let e : l .i ≡ s .args .n = omega arith in
-    eliminates _ _ _ _ (laid-start (now (s .args .h)) (rw e at (l .inv .1)) (s .pre .0)) (c .before .before .columns .ensures)
+    eliminates _ _ _ _ _ (bounded .pivot-bound .ensures) (laid-start (now (s .args .h)) (rw e at (l .inv .1)) (s .pre .0)) (c .before .before .columns .ensures)
 
 pub eliminate-spec : {M : Type 1} → statement M
 eliminate-spec =
@@ -33,6 +34,7 @@ eliminate-spec =
     (λ c κs. let s = c .before .before .before .before .before in (roomy-same (s .pre .0) (c .before .before .loop .inv .1 .long), c .before .loop-test .taken, s .pre .1))
     (λ c. search needs) (λ c. search needs)
     (λ c. (search needs, laying-more (c .before .before .before .before .before .loop .inv .1) _ _ (c .before .before .start-row .ensures) refl (c .before .before .start-row .kept .1 .0)))
-    (λ c κs. let left = c .before in roomy-same (left .before .before .before .before .pre .0) (left .before .loop .inv .1 .long))
-    (λ c. c .before .before .columns .kept .1 .0 ∙ c .before .before .before .before .before .loop .inv .1 .long)
+    (λ c κs. search needs)
+    (λ c κs. let left = c .before .before in roomy-same (left .before .before .before .before .pre .0) (left .before .loop .inv .1 .long))
+    (λ c. c .before .before .columns .kept .1 .0 ∙ c .before .before .before .before .before .before .loop .inv .1 .long)
     returns)
