@@ -53,7 +53,7 @@ billionth = ofBits binary64 0x3e11_2e0b_e826_d695
 abbrev pub ten-epsilons : Float
 ten-epsilons = ofBits binary64 0x3ce4_0000_0000_0000
 
--- of the largest magnitude in a matrix: no pivot is as small
+-- the share of a matrix's largest magnitude up to which a pivot counts as none
 abbrev pub pivot-share : Float
 pivot-share = ofBits binary64 0x3d70_0000_0000_0000
 

@@ -53,7 +53,7 @@ fn entry(n: usize, w: &[f64], i: usize, j: usize) -> f64
     w[from + j]
 }
 
-// A pivot at most this large counts as none. It is worked out once, before the rows change.
+// Up to this magnitude a pivot counts as none. It is worked out once, before the rows change.
 fn pivot_bound(h: &[f64]) -> f64
     ensures { λ r. ⌜ r ≡ Inverse.pivot-bound (now (h .entry)) ⌝ }
 {
