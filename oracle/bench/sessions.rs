@@ -231,11 +231,7 @@ fn by_our_trustregion(
     let mut h = start.hessian.entries().to_vec();
     // SAFETY: each pointer comes with its own list's length, and none of them overlap.
     unsafe {
-        done(mboyaxin_trustregion_start(
-            &mut words,
-            &mut numbers,
-            &settings,
-        ));
+        done(mboyaxin_trustregion_start(&mut words, &mut numbers, &settings));
         for _ in 0..TRIALS {
             #[rustfmt::skip]
             done(mboyaxin_trustregion_propose(&mut words, &mut numbers, &settings, n, point.0.as_ptr(), n, g.as_ptr(), n, h.as_ptr(), n * n,

@@ -233,11 +233,14 @@ fn pivots() -> Vec<Case> {
     let line = [0.05, 0.05, 0.05, 0.05f64.next_up()];
     cases.push(Case::new(DOGLEG, 1e18, &[0.02, 0.03], &line));
     cases.push(Case::new(DOGLEG, 1.0, &[3.0, 4.0], &[0.0; 4]));
-    // A pivot that is a NaN, since numbers overflowed on the way, is not at most anything.
-    let h = [1e-300, 1e300, 0.0, 1.0, 1e300, 1e300, 0.0, 1.0, 1.0];
-    cases.push(Case::new(DOGLEG, 1.0, &[1.0, 1.0, 1.0], &h));
+    cases.push(Case::new(DOGLEG, 1.0, &[1.0; 3], &OVERFLOWING));
     cases
 }
+
+/// Its second pivot overflows to −inf on the way and its third is a NaN, which is not at most anything.
+pub(crate) const OVERFLOWING: [f64; 9] = [
+    1e297, 1e308, 1e308, 1e297, -1e308, 0.0, 1e297, -1e308, 1e308,
+];
 
 /// g·g is the number just below 1, whose root is itself and not 1.
 fn just_below_one() -> Vec<Case> {

@@ -20,10 +20,7 @@ pub fn values(count: u64, seed: u64) -> Vec<u64> {
 
 /// An input of program `decimals`.
 pub fn input(count: u64, seed: u64) -> Vec<u8> {
-    values(count, seed)
-        .iter()
-        .flat_map(|bits| bits.to_le_bytes())
-        .collect()
+    values(count, seed).iter().flat_map(|bits| bits.to_le_bytes()).collect()
 }
 
 /// Zeros, infinities, NaN, the ends of the ranges, the borders of the layout, and numbers at which
@@ -34,45 +31,11 @@ fn marked() -> Vec<u64> {
     let edges = [0x0010_0000_0000_0000, 0x7fe0_0000_0000_0000];
     values.extend(edges.iter().flat_map(|&bits| [bits - 1, bits, bits + 1]));
     let numbers = [
-        1.0,
-        10.0,
-        100.0,
-        0.1,
-        0.125,
-        2.5,
-        1.25e-7,
-        1e-5,
-        1e-4,
-        1e15,
-        1e16,
-        1e17,
-        1e21,
-        1e22,
-        1e23,
-        9.5,
-        99.5,
-        0.3,
-        1.0 / 3.0,
-        2.0 / 3.0,
-        123456789.0,
-        9007199254740992.0,
-        9007199254740993.0,
-        1125899906842624.25,
-        1125899906842624.75,
-        2251799813685248.5,
-        5.684341886080802e-14,
-        9.5367431640625e-7,
-        2.2250738585072011e-308,
-        4.35,
-        0.000012345678901234567,
-        1234567890123456.7,
-        9999999999999998.0,
-        299792458.0,
-        6.02214076e23,
-        1.7976931348623157e308,
-        5e-324,
-        8.41e21,
-        9.409340012568248e18,
+        1.0, 10.0, 100.0, 0.1, 0.125, 2.5, 1.25e-7, 1e-5, 1e-4, 1e15, 1e16, 1e17, 1e21, 1e22, 1e23,
+        9.5, 99.5, 0.3, 1.0 / 3.0, 2.0 / 3.0, 123456789.0, 9007199254740992.0, 9007199254740993.0,
+        1125899906842624.25, 1125899906842624.75, 2251799813685248.5, 5.684341886080802e-14, 9.5367431640625e-7,
+        2.2250738585072011e-308, 4.35, 0.000012345678901234567, 1234567890123456.7, 9999999999999998.0,
+        299792458.0, 6.02214076e23, 1.7976931348623157e308, 5e-324, 8.41e21, 9.409340012568248e18,
     ];
     values.extend(numbers.iter().flat_map(|x: &f64| {
         let bits = x.to_bits();
@@ -111,18 +74,10 @@ fn value(random: &mut Random) -> u64 {
             with_exponent(random, e).to_bits()
         }
         4 => sign | short(random).to_bits(),
-        5 => (sign | short(random).to_bits())
-            .wrapping_add(random.below(5))
-            .wrapping_sub(2),
+        5 => (sign | short(random).to_bits()).wrapping_add(random.below(5)).wrapping_sub(2),
         6 => sign | fraction(random).to_bits(),
         7 => sign | few_bits(random),
-        _ => {
-            sign | (random.word() >> random.below(64))
-                .to_string()
-                .parse::<f64>()
-                .unwrap()
-                .to_bits()
-        }
+        _ => sign | (random.word() >> random.below(64)).to_string().parse::<f64>().unwrap().to_bits(),
     }
 }
 
@@ -130,11 +85,7 @@ fn value(random: &mut Random) -> u64 {
 fn short(random: &mut Random) -> f64 {
     let digits = random.between(1, 17) as u32;
     let number = random.below(10u64.pow(digits));
-    let e = if random.once_in(2) {
-        random.between(-22, 5)
-    } else {
-        random.between(-340, 308)
-    };
+    let e = if random.once_in(2) { random.between(-22, 5) } else { random.between(-340, 308) };
     format!("{number}e{e}").parse().unwrap()
 }
 
@@ -159,9 +110,7 @@ pub fn answer(input: &[u8]) -> String {
     let words = input.chunks_exact(8);
     let rest = words.remainder();
     for word in words {
-        lines.push_str(&text(f64::from_bits(u64::from_le_bytes(
-            word.try_into().unwrap(),
-        ))));
+        lines.push_str(&text(f64::from_bits(u64::from_le_bytes(word.try_into().unwrap()))));
         lines.push('\n');
     }
     if !rest.is_empty() {

@@ -300,6 +300,20 @@ mod tests {
     }
 
     #[test]
+    fn a_pivot_that_is_a_nan_goes_on() {
+        let h = Matrix::new(3, crate::cases::OVERFLOWING.to_vec());
+        let seen = std::cell::RefCell::new(Vec::new());
+        let bound = h.pivot_bound();
+        let inverse = h.inverse_unless(|pivot, _, _| {
+            seen.borrow_mut().push(pivot);
+            pivot.abs() <= bound
+        });
+        assert_eq!(seen.borrow()[..2], [1e297, f64::NEG_INFINITY]);
+        assert!(seen.borrow()[2].is_nan());
+        assert!(inverse.is_some() && h.inverse().is_some());
+    }
+
+    #[test]
     fn a_bound_may_round() {
         // 2^-40 times 2^-1034 is the least number above zero; times 2^-1035 it is a tie, and rounds to 0.
         let least = f64::from_bits(1);
