@@ -96,7 +96,7 @@ said (given m) = Step (length (m .step)) (m .passes)
 
 -- the same of a kernel's own answer, for a step of n numbers
 abbrev pub told : ℕ → Stepped → Said
-told n (stepped.In k) = Step n k
+told n (stepped.In k norm) = Step n k
 told n (stepped.Refused r) = Refused r
 
 -- v at the front of a longer list

@@ -55,7 +55,7 @@ fn told(n: usize, found: Stepped) -> Said
     ensures { λ r. ⌜ r ≡ Case.told n found ⌝ }
 {
     match found {
-        Stepped::In(passes) => Said::Step(n, passes),
+        Stepped::In(passes, _) => Said::Step(n, passes),
         Stepped::Refused(r) => Said::Refused(r),
     }
 }

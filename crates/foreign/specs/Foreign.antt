@@ -21,7 +21,7 @@ outcome out.Written = 0
 outcome (out.Refused r) = number r
 
 abbrev pub stepped-number : Stepped → ℕ
-stepped-number (step.In k) = 0
+stepped-number (step.In k norm) = 0
 stepped-number (step.Refused r) = number r
 
 -- ---- each call: r is what it returns; what it is lent is that at entry, that with a prime at exit

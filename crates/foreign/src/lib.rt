@@ -171,7 +171,7 @@ fn stepped(found: Stepped) -> u64
     ensures { λ r. ⌜ r ≡ Foreign.stepped-number found ⌝ }
 {
     match found {
-        Stepped::In(_) => 0,
+        Stepped::In(_, _) => 0,
         Stepped::Refused(r) => vectors::refusal::number(r),
     }
 }

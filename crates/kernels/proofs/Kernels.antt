@@ -11,7 +11,8 @@ use lib.Ieee.{Float}
 use borrow.Rule.Slice.PartMut.{midOf, putMid}
 use borrow.Author.Tests.{eqb-true}
 use Rattle.float.specs.Constants.{nought}
-use Rattle.vectors.specs.Vector.{tab, zeros, all-finite}
+use Rattle.float.specs.Numbers.{finite}
+use Rattle.vectors.specs.Vector.{tab, zeros, all-finite, norm}
 use Rattle.vectors.specs.Slots.{slot, Puts}
 use Rattle.kernels.specs.Workspace.{each}
 use Rattle.vectors.specs.Refusal.{Answer, refused, given, Check, _if_, unless, judged, then, all-hold, untouched-by, size, sized, room, Square, Roomy}
@@ -141,23 +142,31 @@ pub laid-same : (n : ℕ) (a b : Answer Made) (r : Stepped) (w₁ w w′ : List 
 laid-same n a b r w₁ w w′ p e l h = record { says = h .says ∙ ap stepped e; lays = h .lays ∙ ap (λ (x : Answer Made). laid-out x w₁) e ∙ laid-length n b w₁ w p l }
 
 -- `settle`, by the test of the step
-module _ (n k passes : ℕ) (w u : List Float) (e : u ≡ slot w n k) where
-  pub unsettled : (w′ : List Float) → sound-step u ≡ false → w′ ≡ zeros (length w) → Laid (handed-out (made passes (slot w n k))) (Refused Range) w w′
-  unfolding handed-out
-  unsettled w′ t z = rw (← e, t) (record { says = refl; lays = z })
+-- u and v are the step, read twice: once for its norm
+module _ (n k passes : ℕ) (w u v : List Float) (long : Float) (first : u ≡ slot w n k) (again : v ≡ slot w n k) (is : long ≡ norm u) where
+  norm-known : long ≡ norm (slot w n k)
+  norm-known = is ∙ ap norm first
 
-  pub settled : (w₁ ys : List Float) → sound-step u ≡ true → k * n + n ≤ length w → Puts w n 0 (each n Same (slot w n k) (slot w n k)) w₁ → length w₁ ≡ length w
-      → ys ≡ zeros (length (midOf n (length w₁ - n) w₁)) → Laid (handed-out (made passes (slot w n k))) (In passes) w (putMid n (length w₁ - n) w₁ ys)
+  known : (b : Bool) → (all-finite v && finite long) ≡ b → sound-step (slot w n k) ≡ b
+  unfolding sound-step
+  known b t = rw (← norm-known, ← again) t
+
+  pub unsettled : (w′ : List Float) → (all-finite v && finite long) ≡ false → w′ ≡ zeros (length w) → Laid (handed-out (made passes (slot w n k))) (Refused Range) w w′
+  unfolding handed-out
+  unsettled w′ t z = rw (known false t) (record { says = refl; lays = z })
+
+  pub settled : (w₁ ys : List Float) → (all-finite v && finite long) ≡ true → k * n + n ≤ length w → Puts w n 0 (each n Same (slot w n k) (slot w n k)) w₁ → length w₁ ≡ length w
+      → ys ≡ zeros (length (midOf n (length w₁ - n) w₁)) → Laid (handed-out (made passes (slot w n k))) (In passes long) w (putMid n (length w₁ - n) w₁ ys)
   unfolding handed-out slot
   settled w₁ ys t h p l z =
-      let long : length (slot w n k) ≡ n = length-slot w n k h in
+      let size-k : length (slot w n k) ≡ n = length-slot w n k h in
       let none : 0 * n ≡ 0 = omega arith in
-      let first : take n w₁ ≡ slot w n k = rw none at (p 0 ∙ each-same n (slot w n k) (slot w n k) long) in
+      let front : take n w₁ ≡ slot w n k = rw none at (p 0 ∙ each-same n (slot w n k) (slot w n k) size-k) in
       let size : length (drop n w₁) ≡ length w₁ - n = length-drop n w₁ in
       let behind : drop (length w₁ - n) (drop n w₁) ≡ [] = drop-of-length-le (drop n w₁) {i = length w₁ - n} (omega (arith, size)) in
       let all : take (length w₁ - n) (drop n w₁) ≡ drop n w₁ = take-all (length w₁ - n) (drop n w₁) (omega (arith, size)) in
-      let zeroed : ys ≡ zeros (length w - length (slot w n k)) = z ∙ rw (all, size, long, l) in
-      rw (← e, t) (record { says = refl; lays = rw (first, behind, zeroed, append-nil, e) })
+      let zeroed : ys ≡ zeros (length w - length (slot w n k)) = z ∙ rw (all, size, size-k, l) in
+      rw (known true t) (record { says = ap (In passes) norm-known; lays = rw (front, behind, zeroed, append-nil) })
 
 -- ---- how it ends for a direct caller
 

@@ -45,7 +45,7 @@ Proper n (given m) = length (m .step) ≡ n
 
 abbrev pub stepped : Answer Made → Stepped
 stepped (refused r) = Refused r
-stepped (given m) = In (m .passes)
+stepped (given m) = In (m .passes) (norm (m .step))
 
 -- For a session a kernel leaves its step at the start of the scratch and +0 behind it.
 abbrev pub laid-out : Answer Made → List Float → List Float
@@ -58,7 +58,7 @@ pub record Laid (answer : Answer Made) (r : Stepped) (scratch scratch′ : List 
 
 -- what a direct caller's step becomes: the step that was laid out, or what it was
 abbrev pub handed-over : Stepped → (laid step : List Float) → List Float
-handed-over (In k) laid step = laid
+handed-over (In k norm) laid step = laid
 handed-over (Refused r) laid step = step
 
 -- for a direct caller it leaves its step where that was to go, and +0 in the scratch

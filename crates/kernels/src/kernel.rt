@@ -12,15 +12,16 @@ ghost use Prim.Native.Nat.{_+_, _*_, _≤_};
 ghost use lib.Dec.{eqb};
 ghost use lib.ListN.{length, drop};
 ghost use lib.Ieee.{Float};
-ghost use Rattle.vectors.specs.Vector.{zeros};
+ghost use Rattle.float.specs.Numbers.{finite};
+ghost use Rattle.vectors.specs.Vector.{zeros, all-finite};
 ghost use Rattle.vectors.specs.Slots.{slot};
 ghost use Rattle.vectors.specs.Refusal.{all-hold, size, room, judged};
 ghost use Rattle.kernels.specs.Kernel as Kernel;
 ghost use Rattle.kernels.specs.Kernel.{made, handed-out, handed-over, kernel-checks, Laid};
 
-// A step that was made in so many passes, or why there is none.
+// A step that was made in so many passes, with its norm; or why there is none.
 pub enum Stepped {
-    In(u64),
+    In(u64, f64),
     Refused(Refusal),
 }
 
@@ -35,13 +36,13 @@ pub fn positive(x: f64) -> bool
 }
 
 // Every number of a step is finite, and so is its norm.
-pub(crate) fn sound_step(v: &[f64]) -> bool
-    ensures { λ r. ⌜ r ≡ Kernel.sound-step (now (v .entry)) ⌝ }
+fn sound_step(v: &[f64], norm: f64) -> bool
+    ensures { λ r. ⌜ r ≡ (all-finite (now (v .entry)) && finite norm) ⌝ }
 {
     if !vector::all_finite(v) {
         return false;
     }
-    float::finite(vector::norm_any(v))
+    float::finite(norm)
 }
 
 // The lengths of a kernel's matrix, gradient, step and scratch.
@@ -100,13 +101,14 @@ pub(crate) fn settle(n: usize, w: &mut [f64], k: usize, passes: u64) -> Stepped
     requires { ⌜ k * n + n ≤ length (now w) ⌝ }
     ensures { λ r. ⌜ Laid (handed-out (made passes (slot (now (w .entry)) n k))) r (now (w .entry)) (now (w .exit)) ⌝ }
 {
-    if !sound_step(workspace::part(n, w, k)) {
+    let norm = vector::norm_any(workspace::part(n, w, k));
+    if !sound_step(workspace::part(n, w, k), norm) {
         vector::clear(w);
         return Stepped::Refused(Refusal::Range);
     }
     workspace::each(n, w, 0, Op::Same, k, k);
     vector::clear(&mut w[n..]);
-    Stepped::In(passes)
+    Stepped::In(passes, norm)
 }
 
 // What a session's kernel laid out in w, handed to a direct caller: the step is copied, and its place in
@@ -117,10 +119,10 @@ pub(crate) fn hand_over(n: usize, found: Stepped, step: &mut [f64], w: &mut [f64
         × (now (w .exit) ≡ handed-over found (zeros n ++ drop n (now (w .entry))) (now (w .entry))) ⌝ }
 {
     match found {
-        Stepped::In(passes) => {
+        Stepped::In(passes, norm) => {
             workspace::put(n, step, 0, workspace::part(n, w, 0));
             vector::clear(&mut w[..n]);
-            Stepped::In(passes)
+            Stepped::In(passes, norm)
         }
         Stepped::Refused(r) => Stepped::Refused(r),
     }

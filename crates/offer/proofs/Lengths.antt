@@ -39,9 +39,9 @@ lent-true n x g h p t w e =
 pub used-room : {n x g h p t w : ℕ} (w₁ : ℕ) → Lent n x g h p t w → w₁ ≡ w → n + n ≤ w₁
 used-room w₁ l e = omega (arith, l .scratch)
 
--- what `hand_out` asks of what is lent, and of the part of the scratch that is used
-pub hand-out-ready : {n x g h p t w : ℕ} (w₁ : List Float) → Lent n x g h p t w → length w₁ ≡ w → (n + n ≤ length (take (n + n) w₁)) × Square n h × (x ≡ n) × (g ≡ n) × (p ≡ n) × (t ≡ n)
-hand-out-ready {n} w₁ l e = (omega (arith, length-take-le (n + n) w₁ (used-room _ l e)), l .square, l .point, l .gradient, l .step, l .trial)
+-- what `hand_out` asks of what is lent, of the part of the scratch that is used, and of the norm
+pub hand-out-ready : {n x g h p t w : ℕ} {Known : Type 0} (w₁ : List Float) → Lent n x g h p t w → length w₁ ≡ w → Known → (n + n ≤ length (take (n + n) w₁)) × Square n h × (x ≡ n) × (p ≡ n) × (t ≡ n) × Known
+hand-out-ready {n} w₁ l e k = (omega (arith, length-take-le (n + n) w₁ (used-room _ l e)), l .square, l .point, l .step, l .trial, k)
 
 -- a vector takes the numbers of another of its length
 pub copied : (from to : List Float) → length to ≡ length from → replaced from to ≡ from

@@ -1,5 +1,4 @@
 pub mod Checks
 pub mod Lengths
-pub mod Measures
 pub mod Offers
 pub mod Runs

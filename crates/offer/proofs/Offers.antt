@@ -10,7 +10,7 @@ use lib.Ieee.{Float, eq}
 use lib.Ieee.Bits.{is-true}
 use borrow.Author.Tests.{eq-eqb}
 use Rattle.float.specs.Constants.{nought}
-use Rattle.vectors.specs.Vector.{plus, zeros, all-finite}
+use Rattle.vectors.specs.Vector.{plus, zeros, all-finite, norm}
 use Rattle.vectors.specs.Slots.{slot, Puts}
 use Rattle.vectors.specs.Refusal.{Answer, refused, given, Check, unless, judged, then, all-hold, size, sized, room, scratch-after}
 use Rattle.kernels.specs.Kernel.{Made, made, Proper, Laid}
@@ -56,6 +56,12 @@ slot-part : (w : List Float) (n : ℕ) → slot (take (n + n) w) n 0 ≡ slot w 
 unfolding slot
 slot-part w n = let none : 0 * n ≡ 0 = omega arith in rw none (take-take n (n + n) w (omega arith))
 
+-- v is the step, read once the trial was laid beside it
+pub step-copied : (n : ℕ) (w w₁ v step step′ : List Float) → slot w₁ n 0 ≡ slot w n 0 → length w₁ ≡ length w → v ≡ slot w₁ n 0 → n + n ≤ length w → length step ≡ n → step′ ≡ replaced v step → step′ ≡ slot w n 0
+step-copied n w w₁ v step step′ same l first room at-step a =
+    let long : length v ≡ n = ap length first ∙ length-slot w₁ n 0 (omega arith) in
+    a ∙ copied v step (at-step ∙ sym long) ∙ first ∙ same
+
 -- the trial was laid beside it
 module _ (n passes : ℕ) (point g H step trial w w₁ : List Float) (laid : Puts w n 1 (plus n (slot w n 0) point) w₁) (l : length w₁ ≡ length w) where
   module _ (u w′ : List Float) (is : u ≡ slot w₁ n 1) (z : w′ ≡ zeros (length w₁)) where
@@ -71,9 +77,8 @@ module _ (n passes : ℕ) (point g H step trial w w₁ : List Float) (laid : Put
     unfolding offer
     hands-out v₀ v₁ step′ trial′ r t first second room at-step at-trial a b says =
         let good : all-finite (plus n (slot w n 0) point) ≡ true = sym (ap all-finite (is ∙ laid 1)) ∙ t in
-        let long₀ : length v₀ ≡ n = ap length first ∙ length-slot w₁ n 0 (omega arith) in
         let long₁ : length v₁ ≡ n = ap length second ∙ length-slot w₁ n 1 (omega arith) in
-        let stepped : step′ ≡ slot w n 0 = a ∙ copied v₀ step (at-step ∙ sym long₀) ∙ first ∙ laid 0 in
+        let stepped : step′ ≡ slot w n 0 = step-copied n w w₁ v₀ step step′ (laid 0) l first room at-step a in
         rw good (record {
           says = says ∙ ap (measured n g H passes) stepped;
           leaves-step = stepped;
@@ -157,20 +162,33 @@ module _ (asked : Asked) (n : ℕ) (point g H step trial w : List Float) where
         no-step r f = rw (checked, far) (go opened laid) where
           go : (a : Answer Made) → Laid a found w w₁ → Offers n g H (then (offer n point) a) (Refused r) step trial w step trial w₁
           go (refused x) h = let same : r ≡ x = (let both : stepped.Refused r ≡ stepped.Refused x = sym f ∙ h .says in cc) in record { says = ap Refused same; leaves-step = refl; leaves-trial = refl; leaves-scratch = h .lays }
-          go (given m) h = absurd (let both : stepped.Refused r ≡ stepped.In (m .passes) = sym f ∙ h .says in let z : _≡_ {A = ℕ} 0 1 = cc in omega arith)
+          go (given m) h = absurd (let both : stepped.Refused r ≡ stepped.In (m .passes) (norm (m .step)) = sym f ∙ h .says in let z : _≡_ {A = ℕ} 0 1 = cc in omega arith)
 
-        pub step-made : (passes : ℕ) (r : Offered) (step′ trial′ u′ : List Float) → found ≡ stepped.In passes → length w₁ ≡ length w
+        -- the step, in what is used of the scratch
+        first-laid : (m : Made) → Laid (given m) found w w₁ → length (m .step) ≡ n → slot (take (n + n) w₁) n 0 ≡ m .step
+        first-laid m h size = slot-part w₁ n ∙ ap (λ (v : List Float). slot v n 0) (h .lays) ∙ slot-laid (m .step) _ n size
+
+        -- and what the kernel said is its norm
+        pub norm-laid : (passes : ℕ) (long : Float) → found ≡ stepped.In passes long → long ≡ norm (slot (take (n + n) w₁) n 0)
+        norm-laid passes long f = go opened laid door-long where
+          go : (a : Answer Made) → Laid a found w w₁ → ((m : Made) → a ≡ given m → length (m .step) ≡ n) → long ≡ norm (slot (take (n + n) w₁) n 0)
+          go (refused x) h sized = absurd (let both : stepped.In passes long ≡ stepped.Refused x = sym f ∙ h .says in let z : _≡_ {A = ℕ} 0 1 = cc in omega arith)
+          go (given m) h sized =
+              let both : stepped.In passes long ≡ stepped.In (m .passes) (norm (m .step)) = sym f ∙ h .says in
+              let same : long ≡ norm (m .step) = cc in
+              same ∙ ap norm (sym (first-laid m h (sized m refl)))
+
+        pub step-made : (passes : ℕ) (long : Float) (r : Offered) (step′ trial′ u′ : List Float) → found ≡ stepped.In passes long → length w₁ ≡ length w
             → Offers n g H (offer n point (made passes (slot (take (n + n) w₁) n 0))) r step trial (take (n + n) w₁) step′ trial′ u′
             → Offers n g H (offering asked n point g H step trial w) r step trial w step′ trial′ (u′ ++ drop (n + n) w₁)
-        step-made passes r step′ trial′ u′ f l o = rw (checked, far) (go opened laid door-long) where
+        step-made passes long r step′ trial′ u′ f l o = rw (checked, far) (go opened laid door-long) where
           go : (a : Answer Made) → Laid a found w w₁ → ((m : Made) → a ≡ given m → length (m .step) ≡ n) → Offers n g H (then (offer n point) a) r step trial w step′ trial′ (u′ ++ drop (n + n) w₁)
-          go (refused x) h long = absurd (let both : stepped.In passes ≡ stepped.Refused x = sym f ∙ h .says in let z : _≡_ {A = ℕ} 0 1 = cc in omega arith)
-          go (given m) h long =
-              let count : passes ≡ m .passes = (let both : stepped.In passes ≡ stepped.In (m .passes) = sym f ∙ h .says in cc) in
-              let size : length (m .step) ≡ n = long m refl in
+          go (refused x) h sized = absurd (let both : stepped.In passes long ≡ stepped.Refused x = sym f ∙ h .says in let z : _≡_ {A = ℕ} 0 1 = cc in omega arith)
+          go (given m) h sized =
+              let count : passes ≡ m .passes = (let both : stepped.In passes long ≡ stepped.In (m .passes) (norm (m .step)) = sym f ∙ h .says in cc) in
+              let size : length (m .step) ≡ n = sized m refl in
               let room : n + n ≤ length w = omega (arith, lent .scratch) in
-              let first : slot (take (n + n) w₁) n 0 ≡ m .step =
-              slot-part w₁ n ∙ ap (λ (v : List Float). slot v n 0) (h .lays) ∙ slot-laid (m .step) _ n size in
+              let first : slot (take (n + n) w₁) n 0 ≡ m .step = first-laid m h size in
               let used : length (take (n + n) w₁) ≡ n + n = length-take-le (n + n) w₁ (omega arith) in
               let behind : zeros (length (take (n + n) w₁)) ++ drop (n + n) w₁ ≡ zeros (length w) =
               ap (λ (k : ℕ). zeros k ++ drop (n + n) w₁) used ∙ ap (λ (v : List Float). zeros (n + n) ++ drop (n + n) v) (h .lays) ∙ cleared-laid (m .step) (n + n) (length w) (omega arith) room in

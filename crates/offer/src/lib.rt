@@ -13,6 +13,7 @@ use vectors::vector;
 ghost use mathlib.Core.Path.{_≡_};
 ghost use Prim.Native.Nat.{_+_, _≤_};
 ghost use lib.ListN.{length};
+ghost use Rattle.vectors.specs.Vector as Vector;
 ghost use Rattle.vectors.specs.Vector.{plus};
 ghost use Rattle.vectors.specs.Slots.{slot, Puts};
 ghost use Rattle.vectors.specs.Refusal.{Square};
@@ -34,14 +35,20 @@ pub enum Offered {
     Step(u64, f64, f64, f64),
 }
 
-// What a session keeps of a step.
-fn measured(n: usize, gradient: &[f64], hessian: &[f64], passes: u64, step: &[f64]) -> Offered
-    requires { ⌜ Square n (length (now hessian)) × (length (now gradient) ≡ n) × (length (now step) ≡ n) ⌝ }
+// What a session keeps of a step, whose norm the kernel took.
+fn measured(
+    n: usize,
+    gradient: &[f64],
+    hessian: &[f64],
+    passes: u64,
+    norm: f64,
+    step: &[f64],
+) -> Offered
+    requires { ⌜ Square n (length (now hessian)) × (length (now step) ≡ n) × (norm ≡ Vector.norm (now step)) ⌝ }
     ensures { λ r. ⌜ r ≡ Calls.measured n (now (gradient .entry)) (now (hessian .entry)) passes (now (step .entry)) ⌝ }
 {
-    let slope = vector::value(vector::dot(n, step, gradient));
+    let slope = vector::dot_any(step, gradient);
     let curvature = vector::value(vector::weighted_dot(n, step, hessian, step));
-    let norm = vector::value(vector::norm(n, step));
     Offered::Step(passes, slope, curvature, norm)
 }
 
@@ -61,6 +68,7 @@ fn lay_trial(n: usize, point: &[f64], w: &mut [f64])
 fn hand_out(
     n: usize,
     passes: u64,
+    norm: f64,
     point: &[f64],
     gradient: &[f64],
     hessian: &[f64],
@@ -68,7 +76,7 @@ fn hand_out(
     trial: &mut [f64],
     scratch: &mut [f64],
 ) -> Offered
-    requires { ⌜ (n + n ≤ length (now scratch)) × Square n (length (now hessian)) × (length (now point) ≡ n) × (length (now gradient) ≡ n) × (length (now step) ≡ n) × (length (now trial) ≡ n) ⌝ }
+    requires { ⌜ (n + n ≤ length (now scratch)) × Square n (length (now hessian)) × (length (now point) ≡ n) × (length (now step) ≡ n) × (length (now trial) ≡ n) × (norm ≡ Vector.norm (slot (now scratch) n 0)) ⌝ }
     ensures { λ r. ⌜ Offers n (now (gradient .entry)) (now (hessian .entry)) (offer n (now (point .entry)) (made passes (slot (now (scratch .entry)) n 0)))
         r (now (step .entry)) (now (trial .entry)) (now (scratch .entry)) (now (step .exit)) (now (trial .exit)) (now (scratch .exit)) ⌝ }
 {
@@ -80,7 +88,7 @@ fn hand_out(
     lent::copy(&scratch[0..n], step);
     lent::copy(&scratch[n..n + n], trial);
     vector::clear(scratch);
-    measured(n, gradient, hessian, passes, step)
+    measured(n, gradient, hessian, passes, norm, step)
 }
 
 // The kernel that is chosen is run, and its step and the trial are written, unless a refusal is due. A door for sessions
@@ -112,10 +120,10 @@ pub fn make_unchecked(
             let laid = choice::lay_unchecked(choice, n, state.radius, gradient, hessian, scratch);
             match laid {
                 Stepped::Refused(r) => Offered::Refused(r),
-                Stepped::In(passes) => {
+                Stepped::In(passes, norm) => {
                     // behind the step the scratch is +0 already
                     let used = &mut scratch[..n + n];
-                    hand_out(n, passes, point, gradient, hessian, step, trial, used)
+                    hand_out(n, passes, norm, point, gradient, hessian, step, trial, used)
                 }
             }
         }

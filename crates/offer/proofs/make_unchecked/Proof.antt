@@ -5,7 +5,7 @@ use lib.Seq.{length-take-le}
 use denote.Ref.{now}
 use borrow.Author.Needs.{needs}
 use Rattle.offer.proofs.Lengths.{used-room, hand-out-ready}
-use Rattle.offer.proofs.Offers.{lent, no-checks, no-radius, no-step, step-made}
+use Rattle.offer.proofs.Offers.{lent, no-checks, no-radius, no-step, norm-laid, step-made}
 use Rattle.offer.proofs.make_unchecked.Statement.{statement}
 use Rattle.offer.proofs.make_unchecked.Tie as tie
 
@@ -29,6 +29,7 @@ hand-out-requires c κs =
     let told = laid .before .before .before .before in
     let a = told .before .before .before .before .before .before .before .before .before .before .before .before .before .before .args in
     hand-out-ready _ (lent (a .asked) (a .n) (now (a .point)) (now (a .gradient)) (now (a .hessian)) (now (a .step)) (now (a .trial)) (now (a .scratch)) _ (told .before .before .proposal .ensures) (told .enum-told .given .1)) (laid .lay-unchecked .kept .1 .1 .1 .1 .1 .0)
+    (norm-laid (a .asked) (a .n) (now (a .point)) (now (a .gradient)) (now (a .hessian)) (now (a .step)) (now (a .trial)) (now (a .scratch)) _ (told .before .before .proposal .ensures) (told .enum-told .given .1) (laid .before .before .if1 .left) _ _ (laid .lay-unchecked .ensures) _ _ (c .before .before .before .before .laid2 .given .1))
 
 returns : tie.Need-returns
 returns c =
@@ -50,7 +51,7 @@ returns-4 c =
     let far = laid .before .before in
     let told = far .before .before in
     step-made _ _ _ _ _ _ _ _ _ (told .before .before .proposal .ensures) (told .enum-told .given .1) (far .if1 .left) _ _ (laid .lay-unchecked .ensures)
-    _ _ _ _ _ (named .laid2 .given .1) (laid .lay-unchecked .kept .1 .1 .1 .1 .1 .0) (handed .hand-out .ensures)
+    _ _ _ _ _ _ (named .laid2 .given .1) (laid .lay-unchecked .kept .1 .1 .1 .1 .1 .0) (handed .hand-out .ensures)
 
 pub make-unchecked-spec : {M : Type 1} → statement M
 make-unchecked-spec =

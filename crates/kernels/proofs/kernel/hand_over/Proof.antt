@@ -15,7 +15,7 @@ use Rattle.vectors.proofs.Slots.{puts-whole}
 use Rattle.kernels.proofs.kernel.hand_over.Statement.{statement}
 use Rattle.kernels.proofs.kernel.hand_over.Tie as tie
 
-module _ (n k : ℕ) (found : Stepped) (f : found ≡ In k) where
+module _ (n k : ℕ) (norm : Float) (found : Stepped) (f : found ≡ In k norm) where
   -- a step is copied whole
   copied : (step step′ u v : List Float) → length step ≡ n → length step′ ≡ length step → u ≡ v → Puts step n 0 u step′ → step′ ≡ handed-over found v step
   copied step step′ u v e l a p = rw f (puts-whole step step′ u n p (l ∙ e) ∙ a)
@@ -30,7 +30,7 @@ returns c =
     let put = cleared .before .before .before .before in
     let told = put .before .before .before .before .before in
     let asked = told .before .before .before .before .pre in
-    (sym (told .found .given .1), copied _ _ _ (told .found .given .1) _ _ _ _ (asked .0) (put .put .kept .1 .0) (put .before .part .ensures .0) (put .put .ensures), emptied _ _ _ (told .found .given .1) _ _ (asked .1) (cleared .clear .ensures))
+    (sym (told .found .given .1), copied _ _ _ _ (told .found .given .1) _ _ _ _ (asked .0) (put .put .kept .1 .0) (put .before .part .ensures .0) (put .put .ensures), emptied _ _ _ _ (told .found .given .1) _ _ (asked .1) (cleared .clear .ensures))
 
 returns-2 : tie.Need-returns-2
 returns-2 c = let told = c .before in (sym (told .found2 .given .1), rw (told .found2 .given .1), rw (told .found2 .given .1))
