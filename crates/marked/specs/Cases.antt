@@ -74,7 +74,7 @@ minus-zero-step = steps-to 0 ((minus 0 over 1) ∷ (minus 0 over 1) ∷ [])
 abbrev session-of : (max-radius radius f : Float) → Phase → Session
 session-of max-radius radius f phase = record {
   settings = settings-of (by-default 1 5) one max-radius eighth;
-  state = record { radius = radius; cost = f; phase = phase };
+  state = record { radius = radius; cost = f; phase = phase; count = 0 };
 }
 
 -- it awaits the cost of the trial (2) at the point (1), with the model value m and "‖p‖ = radius = 2.5", and is answered F
@@ -90,7 +90,7 @@ accepted max-radius ratio radius F = session (given (record { session = session-
 
 -- an SR1TrustRegion session at radius 1: f 10
 abbrev sr1-of : (f : Float) → Phase → Sr1
-sr1-of f phase = record { settings = sr1-settings.by-default 1 5; state = record { radius = one; cost = f; phase = phase } }
+sr1-of f phase = record { settings = sr1-settings.by-default 1 5; state = record { radius = one; cost = f; phase = phase; count = 0 } }
 
 -- "SR1, I, s (1, 0)", answered F 9 and the gradient G at the trial (1, 0) of the point (0, 0), with P 2 and ‖s‖ 1
 abbrev updated : (G : List Float) → Found

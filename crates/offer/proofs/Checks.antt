@@ -37,6 +37,15 @@ unless-elim P (c ∷ cs) a bad good = go (c .applies) (λ v. unless-elim P cs a 
     go true k = bad (c .refusal)
     go false k = k tt
 
+-- where no check applies, it is the answer
+pub unless-none : {A : Type 0} (cs : List Check) (a : Answer A) → None cs → unless cs a ≡ a
+unless-none [] a w = refl
+unless-none (c ∷ cs) a w = go (c .applies) (w .0) (unless-none cs a (w .1))
+  where
+    go : (b : Bool) → T (not b) → unless cs a ≡ a → cond b (refused (c .refusal)) (unless cs a) ≡ a
+    go true v e = absurd v
+    go false v e = e
+
 -- the checked answers are one where the answers are, should no check apply
 pub unless-same : {A : Type 0} (cs : List Check) (a b : Answer A) → (None cs → a ≡ b) → unless cs a ≡ unless cs b
 unless-same [] a b e = e tt
@@ -70,6 +79,10 @@ cond-elim P false p q = q
 pub not-not : (b : Bool) → T (not (not b)) → T b
 not-not true w = tt
 not-not false w = w
+
+pub false-is : (b : Bool) → T (not b) → b ≡ false
+false-is true w = absurd w
+false-is false w = refl
 
 -- a call leaves a scratch as long as it was
 zeros-length : (n : ℕ) → length (zeros n) ≡ n

@@ -1,4 +1,5 @@
 pub mod Checks
+pub mod Counts
 pub mod Lengths
 pub mod Offers
 pub mod Runs

@@ -4,6 +4,7 @@ use mathlib.Core.Bool.{Bool, true, false, cond, not}
 use mathlib.Core.List.{List, [], _∷_, _++_}
 use Prim.Native.Nat.{ℕ, _+_, _*_, _-_, _≤_}
 use native.Mathlib.Omega.{arith}
+use lib.Dec.{eqb}
 use lib.ListN.{length, take, drop}
 use lib.Seq.{take-take, length-take-le}
 use lib.Ieee.{Float, eq}
@@ -16,7 +17,7 @@ use Rattle.vectors.specs.Refusal.{Answer, refused, given, Check, unless, judged
 use Rattle.kernels.specs.Kernel.{Made, made, Proper, Laid}
 use Rattle.kernels.specs.Choice.{known, kernel, door}
 use Rattle.vectors.specs.declared.refusal.Refusal.{Refusal}
-use Rattle.vectors.specs.declared.refusal.Refusal.the-variants.{Size, Setting, Radius, Range}
+use Rattle.vectors.specs.declared.refusal.Refusal.the-variants.{Size, Setting, Radius, Range, Hidden}
 use Rattle.vectors.specs.declared.refusal.Verdict.{Verdict}
 use Rattle.vectors.specs.declared.refusal.Verdict.the-variants.{Passed, Failed}
 use Rattle.kernels.specs.declared.kernel.Stepped.{Stepped}
@@ -122,10 +123,10 @@ module _ (asked : Asked) (n : ℕ) (point g H step trial w : List Float) where
   sizes-lent none = lent-true n (length point) (length g) (length H) (length step) (length trial) (length w) (is-true _ (not-not (all-sized n point g H step trial w) (none .0)))
 
   -- by the chosen kernel itself, which a session's definitions speak of
-  pub offers-kernel : (asked .sound ≡ true → known (asked .choice .kernel) ≡ true) → offering asked n point g H step trial w ≡ unless checks (stepping (kernel (asked .choice)) n radius point g H)
+  pub offers-kernel : (asked .sound ≡ true → known (asked .choice .kernel) ≡ true) → offering asked n point g H step trial w ≡ unless checks (stepping (kernel (asked .choice)) (asked .allowance) (asked .state) n point g H)
   unfolding offering door
-  offers-kernel k = unless-same checks (unless (step-checks radius) (then (offer n point) opened)) (stepping (kernel (asked .choice)) n radius point g H) by-kernel where
-    by-kernel : None checks → unless (step-checks radius) (then (offer n point) opened) ≡ stepping (kernel (asked .choice)) n radius point g H
+  offers-kernel k = unless-same checks (unless (step-checks (asked .allowance) (asked .state)) (then (offer n point) opened)) (stepping (kernel (asked .choice)) (asked .allowance) (asked .state) n point g H) by-kernel where
+    by-kernel : None checks → unless (step-checks (asked .allowance) (asked .state)) (then (offer n point) opened) ≡ stepping (kernel (asked .choice)) (asked .allowance) (asked .state) n point g H
     by-kernel none =
         let l = sizes-lent none in
         let named = k (is-true _ (not-not (asked .sound) (none .1 .0))) in
@@ -135,31 +136,34 @@ module _ (asked : Asked) (n : ℕ) (point g H step trial w : List Float) where
   pub offered-elim : (P : Answer Offer → Type 0) → ((r : Refusal) → P (refused r)) → (Lent n (length point) (length g) (length H) (length step) (length trial) (length w) → (a : Answer Offer) → P a)
       → P (offering asked n point g H step trial w)
   unfolding offering
-  offered-elim P bad good = unless-elim P checks (unless (step-checks radius) (then (offer n point) opened)) bad (λ none. good (sizes-lent none) (unless (step-checks radius) (then (offer n point) opened)))
+  offered-elim P bad good = unless-elim P checks (unless (step-checks (asked .allowance) (asked .state)) (then (offer n point) opened)) bad (λ none. good (sizes-lent none) (unless (step-checks (asked .allowance) (asked .state)) (then (offer n point) opened)))
 
   -- v is the code's verdict on the checks
   module _ (v : Verdict) (judges : v ≡ judged checks) where
     pub no-checks : (r : Refusal) → v ≡ Failed r → Offers n g H (offering asked n point g H step trial w) (Refused r) step trial w step trial w
     unfolding offering
     no-checks r e =
-        rw (unless-failed checks (unless (step-checks radius) (then (offer n point) opened)) r (sym judges ∙ e))
+        rw (unless-failed checks (unless (step-checks (asked .allowance) (asked .state)) (then (offer n point) opened)) r (sym judges ∙ e))
         (record { says = refl; leaves-step = refl; leaves-trial = refl; leaves-scratch = rw (early checks r (refl, (refl, (refl, (refl, tt)))) (sym judges ∙ e)) })
 
     module _ (e : v ≡ Passed) where
       pub lent : Lent n (length point) (length g) (length H) (length step) (length trial) (length w)
       lent = sizes-lent (passed-none checks (sym judges ∙ e))
 
-      checked : offering asked n point g H step trial w ≡ unless (step-checks radius) (then (offer n point) opened)
+      checked : offering asked n point g H step trial w ≡ unless (step-checks (asked .allowance) (asked .state)) (then (offer n point) opened)
       unfolding offering
       checked = unless-passed checks _ (sym judges ∙ e)
 
       pub no-radius : eq radius nought ≡ true → Offers n g H (offering asked n point g H step trial w) (Refused Radius) step trial w step trial w
       no-radius z = rw (checked, z) (record { says = refl; leaves-step = refl; leaves-trial = refl; leaves-scratch = refl })
 
-      module _ (far : eq radius nought ≡ false) (found : Stepped) (w₁ : List Float) (laid : Laid opened found w w₁) where
+      pub too-hidden : eq radius nought ≡ false → eqb (asked .state .count) (asked .allowance) ≡ true → Offers n g H (offering asked n point g H step trial w) (Refused Hidden) step trial w step trial w
+      too-hidden far z = rw (checked, far, z) (record { says = refl; leaves-step = refl; leaves-trial = refl; leaves-scratch = refl })
+
+      module _ (far : eq radius nought ≡ false) (shown : eqb (asked .state .count) (asked .allowance) ≡ false) (found : Stepped) (w₁ : List Float) (laid : Laid opened found w w₁) where
         pub no-step : (r : Refusal) → found ≡ stepped.Refused r
             → Offers n g H (offering asked n point g H step trial w) (Refused r) step trial w step trial w₁
-        no-step r f = rw (checked, far) (go opened laid) where
+        no-step r f = rw (checked, far, shown) (go opened laid) where
           go : (a : Answer Made) → Laid a found w w₁ → Offers n g H (then (offer n point) a) (Refused r) step trial w step trial w₁
           go (refused x) h = let same : r ≡ x = (let both : stepped.Refused r ≡ stepped.Refused x = sym f ∙ h .says in cc) in record { says = ap Refused same; leaves-step = refl; leaves-trial = refl; leaves-scratch = h .lays }
           go (given m) h = absurd (let both : stepped.Refused r ≡ stepped.In (m .passes) (norm (m .step)) = sym f ∙ h .says in let z : _≡_ {A = ℕ} 0 1 = cc in omega arith)
@@ -181,7 +185,7 @@ module _ (asked : Asked) (n : ℕ) (point g H step trial w : List Float) where
         pub step-made : (passes : ℕ) (long : Float) (r : Offered) (step′ trial′ u′ : List Float) → found ≡ stepped.In passes long → length w₁ ≡ length w
             → Offers n g H (offer n point (made passes (slot (take (n + n) w₁) n 0))) r step trial (take (n + n) w₁) step′ trial′ u′
             → Offers n g H (offering asked n point g H step trial w) r step trial w step′ trial′ (u′ ++ drop (n + n) w₁)
-        step-made passes long r step′ trial′ u′ f l o = rw (checked, far) (go opened laid door-long) where
+        step-made passes long r step′ trial′ u′ f l o = rw (checked, far, shown) (go opened laid door-long) where
           go : (a : Answer Made) → Laid a found w w₁ → ((m : Made) → a ≡ given m → length (m .step) ≡ n) → Offers n g H (then (offer n point) a) r step trial w step′ trial′ (u′ ++ drop (n + n) w₁)
           go (refused x) h sized = absurd (let both : stepped.In passes long ≡ stepped.Refused x = sym f ∙ h .says in let z : _≡_ {A = ℕ} 0 1 = cc in omega arith)
           go (given m) h sized =

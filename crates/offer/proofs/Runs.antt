@@ -3,10 +3,9 @@ use mathlib.Core.Path.{_≡_, refl, sym, subst}
 use mathlib.Core.Bool.{Bool, true, false, not, cond}
 use mathlib.Core.List.{List, [], _∷_}
 use lib.Dec.{T}
-use lib.Ieee.Fits.{and-l, and-r}
 use Rattle.vectors.specs.Refusal.{Answer, refused, given, Check, unless}
 use Rattle.vectors.specs.declared.refusal.Refusal.{Refusal}
-use Rattle.offer.specs.Run.{Vectors, Station, Lending, own, others, Call, Done, Does, lending-it, handed-back, Entry, perform-by, perform, entry, run, final, calls, was-refused, lent-at, lent-same, Thinned, none, keep, drop, Every}
+use Rattle.offer.specs.Run.{Vectors, Station, Lending, own, others, Call, Done, Does, lending-it, handed-back, Entry, perform-by, perform, entry, run, final, calls, was-refused, Thinned, keep, drop, Every}
 use Rattle.offer.proofs.Checks.{None}
 
 -- ---- answers
@@ -75,16 +74,8 @@ module _ {S Q A : Type 0} (respond : Q → Station S → Done S A) where
     pub replay-strike : (c : Call Q) (s t : Station S) (cs : List (Call Q)) (kept : List (Entry Q A)) → Replays (perform respond c s .after) cs t kept → Replays s (c ∷ cs) t kept
     replay-strike c s t cs kept r = record { replies = r .replies; ends = r .ends }
 
-    -- refused calls struck
-    module _ (follow : (c : Call Q) (s t : Station S) → T (lent-at (entry respond c s)) → Alike s t → Follows (perform respond c s) (perform respond c t))
-        (pass : (c : Call Q) (s t : Station S) → T (was-refused (perform respond c s .reply)) → Alike s t → Alike (perform respond c s .after) t) where
-      pub thinned-replays : (cs : List (Call Q)) (s t : Station S) (kept : List (Entry Q A)) → T (lent-same (run respond s cs)) → Thinned (run respond s cs) kept → Alike s t → Replays s cs t kept
-      thinned-replays [] s t kept w none a = record { replies = refl; ends = a }
-      thinned-replays (c ∷ cs) s t kept w (keep e {ds = ds} h) a =
-          let now = lent-at (entry respond c s) in
-          let later = lent-same (run respond (perform respond c s .after) cs) in
-          let f = follow c s t (and-l now later w) a in
-          replay-keep c s t cs ds f (thinned-replays cs (perform respond c s .after) (perform respond c t .after) ds (and-r now later w) h (f .after))
-      thinned-replays (c ∷ cs) s t kept w (drop e v h) a =
-          replay-strike c s t cs kept
-          (thinned-replays cs (perform respond c s .after) t kept (and-r (lent-at (entry respond c s)) (lent-same (run respond (perform respond c s .after) cs)) w) h (pass c s t v a))
+-- a thinned list keeps its first call, or drops it where that was refused
+pub thinned-elim : {Q A : Type 0} (P : List (Entry Q A) → Type 0) (e : Entry Q A) (es kept : List (Entry Q A)) → Thinned (e ∷ es) kept
+    → ((ds : List (Entry Q A)) → Thinned es ds → P (e ∷ ds)) → ((ds : List (Entry Q A)) → T (was-refused (e .reply)) → Thinned es ds → P ds) → P kept
+thinned-elim P e es kept (keep x {ds = ds} h) k d = k ds h
+thinned-elim P e es kept (drop x w h) k d = d kept w h

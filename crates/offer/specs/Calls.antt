@@ -30,12 +30,12 @@ replaced from to = cond (eqb (length to) (length from)) from to
 
 -- ---- a step is offered
 
--- refusals 1 to 5 and the kernel's door, and then the trial
+-- refusals 1 to 5 and 9 and the kernel's door, and then the trial
 unfoldable pub offering : Asked → ℕ → (point gradient hessian step trial scratch : List Float) → Answer Offer
 unfolding size all-finite door offer
 offering asked n point gradient hessian step trial scratch =
     unless (proposal-checks (asked .sound) (asked .state) n point gradient hessian step trial scratch)
-    (unless (step-checks (asked .state .radius)) (then (offer n point) (door (asked .choice) n (asked .state .radius) gradient hessian scratch)))
+    (unless (step-checks (asked .allowance) (asked .state)) (then (offer n point) (door (asked .choice) n (asked .state .radius) gradient hessian scratch)))
 
 -- a step p with its passes, p·g, p·H·p and ‖p‖
 abbrev pub measured : ℕ → (gradient hessian : List Float) → (passes : ℕ) → (p : List Float) → Offered

@@ -2,13 +2,14 @@
 use mathlib.Core.Bool.{Bool, not, _&&_, _||_}
 use mathlib.Core.List.{List, [], _∷_}
 use Prim.Native.Nat.{ℕ, _*_}
+use lib.Dec.{eqb}
 use lib.Ieee.{Float, eq, isNan}
 use Rattle.float.specs.Numbers.{finite}
 use Rattle.float.specs.Constants.{nought}
 use Rattle.vectors.specs.Vector.{plus, all-finite}
 use Rattle.vectors.specs.Refusal.{Answer, given, Check, _if_, unless, then, all-hold, size, sized, room}
 use Rattle.kernels.specs.Kernel.{Made, Kernel}
-use Rattle.vectors.specs.declared.refusal.Refusal.the-variants.{Size, Setting, Turn, Entry, Radius, Range}
+use Rattle.vectors.specs.declared.refusal.Refusal.the-variants.{Size, Setting, Turn, Entry, Radius, Range, Hidden}
 use Rattle.offer.specs.State.{is-ready}
 use Rattle.offer.specs.declared.state.State.{State}
 
@@ -55,10 +56,10 @@ unfoldable pub offer : ℕ → (point : List Float) → Made → Answer Offer
 unfolding plus all-finite
 offer n point m = unless (offer-checks (offered n point m)) (given (offered n point m))
 
--- "5: a proposal from a session whose radius is zero"
-abbrev pub step-checks : (radius : Float) → List Check
-step-checks radius = (Radius if eq radius nought) ∷ []
+-- "5: a proposal from a session whose radius is zero"; "9, a proposal when the count equals the setting, checked after 5"
+abbrev pub step-checks : (allowance : ℕ) → State → List Check
+step-checks allowance state = (Radius if eq (state .radius) nought) ∷ (Hidden if eqb (state .count) allowance) ∷ []
 
 -- "propose runs the kernel, writes step and trial = step + point"
-abbrev pub stepping : Kernel → ℕ → (radius : Float) → (point gradient hessian : List Float) → Answer Offer
-stepping kernel n radius point gradient hessian = unless (step-checks radius) (then (offer n point) (kernel n radius gradient hessian))
+abbrev pub stepping : Kernel → (allowance : ℕ) → State → ℕ → (point gradient hessian : List Float) → Answer Offer
+stepping kernel allowance state n point gradient hessian = unless (step-checks allowance state) (then (offer n point) (kernel n (state .radius) gradient hessian))

@@ -1,7 +1,9 @@
 -- What a session of either kind keeps beside its settings, and what its calls say. Definitions only.
-use mathlib.Core.Bool.{Bool, true, false, cond}
+use mathlib.Core.Bool.{Bool, true, false, _&&_, cond}
 use mathlib.Core.List.{[], _∷_}
-use lib.Ieee.{Float, le}
+use Prim.Native.Nat.{ℕ, _+_}
+use lib.Dec.{leb}
+use lib.Ieee.{Float, le, isNan}
 use Rattle.float.specs.Numbers.{finite}
 use Rattle.float.specs.Constants.{nought}
 use Rattle.vectors.specs.Refusal.{Answer, refused, given, all-hold}
@@ -12,18 +14,26 @@ use Rattle.offer.specs.declared.state.State.{State}
 use Rattle.offer.specs.declared.state.Outcome.{Outcome}
 use Rattle.offer.specs.declared.state.Outcome.the-variants.{Refused, Accepted, Rejected}
 
--- ---- "A session is the settings with the radius and the cost and a phase"
+-- ---- "A session is the settings with the radius and the cost and a phase"; request Five adds "the number of NaN answers in a row"
 
 abbrev pub begin : (radius cost : Float) → State
-begin radius cost = record { radius = radius; cost = cost; phase = Ready }
+begin radius cost = record { radius = radius; cost = cost; phase = Ready; count = 0 }
 
--- with another radius and cost, in another phase
-abbrev pub moved : State → (radius cost : Float) → Phase → State
-moved state radius cost phase = record { radius = radius; cost = cost; phase = phase }
+-- with another radius and cost, in another phase, with another count
+abbrev pub moved : State → (radius cost : Float) → Phase → (count : ℕ) → State
+moved state radius cost phase count = record { radius = radius; cost = cost; phase = phase; count = count }
 
 -- only in another phase
 abbrev pub in-phase : Phase → State → State
-in-phase phase state = moved state (state .radius) (state .cost) phase
+in-phase phase state = moved state (state .radius) (state .cost) phase (state .count)
+
+-- "A NaN answer raises the count; any other answer taken sets it to 0"
+abbrev pub counted : (F : Float) → ℕ → ℕ
+counted F count = cond (isNan F) (count + 1) 0
+
+-- "a setting for the most allowed, 1 to 1,000"
+abbrev pub allowable : ℕ → Bool
+allowable allowance = leb 1 allowance && leb allowance 1000
 
 -- not "a session with negative or not finite radius, or cost not finite"
 abbrev pub steady : State → Bool

@@ -22,9 +22,11 @@ ghost use Rattle.offer.specs.Offer.{offer};
 ghost use Rattle.offer.specs.Calls as Calls;
 ghost use Rattle.offer.specs.Calls.{offering, Offers};
 
-// What a session that is asked for a step lends of itself: its kernel, its state, and whether refusal 2 finds nothing in it.
+// What a session that is asked for a step lends of itself: its kernel, the most hidden trials in a row that it takes, its state, and
+// whether refusal 2 finds nothing in it.
 pub struct Asked {
     pub choice: Choice,
+    pub allowance: u64,
     pub sound: bool,
     pub state: State,
 }
@@ -109,6 +111,7 @@ pub fn make_unchecked(
         r (now (step .entry)) (now (trial .entry)) (now (scratch .entry)) (now (step .exit)) (now (trial .exit)) (now (scratch .exit)) ⌝ }
 {
     let choice = asked.choice;
+    let allowance = asked.allowance;
     let state = asked.state;
     let checks = range::proposal(asked, n, point, gradient, hessian, step, trial, scratch);
     match checks {
@@ -116,6 +119,9 @@ pub fn make_unchecked(
         Verdict::Passed => {
             if state.radius == 0.0 {
                 return Offered::Refused(Refusal::Radius);
+            }
+            if state.count == allowance {
+                return Offered::Refused(Refusal::Hidden);
             }
             let laid = choice::lay_unchecked(choice, n, state.radius, gradient, hessian, scratch);
             match laid {

@@ -12,10 +12,12 @@ pub enum Phase {
     AwaitingDerivatives,
 }
 
+// `count` is how many trials in a row were hidden: answered with a NaN.
 pub struct State {
     pub radius: f64,
     pub cost: f64,
     pub phase: Phase,
+    pub count: u64,
 }
 
 // What a call says: the passes of a proposal, the ratio of a verdict. Only SR1TrustRegion says that it is done, only TrustRegion
@@ -29,7 +31,7 @@ pub enum Outcome {
     Taken,
 }
 
-// A session begins ready.
+// A session begins ready, and nothing was hidden yet.
 pub fn begin(radius: f64, cost: f64) -> State
     ensures { λ r. ⌜ r ≡ Definition.begin radius cost ⌝ }
 {
@@ -37,17 +39,19 @@ pub fn begin(radius: f64, cost: f64) -> State
         radius,
         cost,
         phase: Phase::Ready,
+        count: 0,
     }
 }
 
-// With another radius and cost, in another phase. No other function makes a state from a state.
-pub fn moved(state: State, radius: f64, cost: f64, phase: Phase) -> State
-    ensures { λ r. ⌜ r ≡ Definition.moved state radius cost phase ⌝ }
+// With another radius and cost, in another phase, with another count. No other function makes a state from a state.
+pub fn moved(state: State, radius: f64, cost: f64, phase: Phase, count: u64) -> State
+    ensures { λ r. ⌜ r ≡ Definition.moved state radius cost phase count ⌝ }
 {
     State {
         radius: radius,
         cost: cost,
         phase: phase,
+        count: count,
     }
 }
 
@@ -55,7 +59,17 @@ pub fn moved(state: State, radius: f64, cost: f64, phase: Phase) -> State
 pub fn in_phase(state: State, phase: Phase) -> State
     ensures { λ r. ⌜ r ≡ Definition.in-phase phase state ⌝ }
 {
-    moved(state, state.radius, state.cost, phase)
+    moved(state, state.radius, state.cost, phase, state.count)
+}
+
+// The most hidden trials in a row that a session may be set to take.
+pub fn allowable(allowance: u64) -> bool
+    ensures { λ r. ⌜ r ≡ Definition.allowable allowance ⌝ }
+{
+    if allowance < 1 {
+        return false;
+    }
+    allowance <= 1000
 }
 
 // What refusal 2 asks of a state at every call.

@@ -1,4 +1,4 @@
--- The radius rule, a run and the order of the checks, worked out over the definitions. Assumes nothing. (Document 01's marked cases are crates/marked.)
+-- The radius rule, a run, the order of the checks, and hidden trials in a row, worked out over the definitions. Assumes nothing. (Document 01's marked cases are crates/marked.)
 use mathlib.Core.Path.{_≡_, refl}
 use mathlib.Core.Bool.{false}
 use mathlib.Core.List.{List, [], _∷_, _++_, map}
@@ -9,9 +9,9 @@ use Rattle.vectors.specs.Vector.{zeros}
 use Rattle.vectors.specs.Refusal.{Answer, refused, given, number, room}
 use Rattle.kernels.specs.Choice as Choice
 use Rattle.vectors.specs.declared.refusal.Refusal.the-variants.{Size, Turn}
-use Rattle.offer.specs.State.{begin, in-phase}
+use Rattle.offer.specs.State.{begin, moved, in-phase}
 use Rattle.offer.specs.Run.{own, Call, Entry, run, final}
-use Rattle.sr1.specs.Settings.{settings-of, by-default, chosen}
+use Rattle.sr1.specs.Settings.{settings-of, allowing, by-default, chosen}
 use Rattle.sr1.specs.Session.{start, proposal, next-radius, judgement}
 use Rattle.sr1.specs.Run.{Station, Request, propose, answer, Told, outcome, respond}
 use Rattle.sr1.specs.declared.session.Session.{Session}
@@ -120,3 +120,56 @@ pub lowest :
     ≡ 2 ∷ 4 ∷ 0 ∷ 1 ∷ 2 ∷ 3 ∷ 4 ∷ 0 ∷ 5 ∷ 0 ∷ 1 ∷ 2 ∷ 3 ∷ 4 ∷ 4 ∷ 0 ∷ []
 unfolding zeros start proposal judgement Choice.kernel ofBits add sub mul div neg lt le eq isNan
 lowest = refl
+
+-- ---- request Five: hidden trials in a row
+
+-- with an allowance and a count
+abbrev counting : (radius : Float) → Phase → (allowance count : ℕ) → Session
+counting radius phase allowance count = record { settings = allowing allowance (by-default 1 5); state = moved (begin radius one) radius one phase count }
+
+abbrev asked-again : (radius : Float) → Phase → (allowance count : ℕ) → (gradient : List Float) → ℕ
+asked-again radius phase allowance count gradient =
+    numbered (proposal chosen (counting radius phase allowance count) 2 (one ∷ one ∷ []) gradient (one ∷ nought ∷ nought ∷ one ∷ []) (one ∷ one ∷ []) (one ∷ one ∷ []) (zeros (room 2)))
+
+abbrev told-again : Phase → (count : ℕ) → (F : Float) → ℕ
+told-again phase count F = numbered (judgement (counting one phase 2 count) 1 F (one ∷ []) (one ∷ []) (one ∷ []) (one ∷ []) (two ∷ []) (one ∷ []) (zeros (room 1)))
+
+-- done before 5, 5 before 9, 9 at the allowance and not below it; above it 2, before 3 and before done; the borders of the setting
+pub hidden-lowest :
+    asked-again nought Ready 2 2 (nought ∷ nought ∷ [])
+    ∷ asked-again nought Ready 2 2 (one ∷ one ∷ [])
+    ∷ asked-again one Ready 2 2 (one ∷ one ∷ [])
+    ∷ asked-again one Ready 2 1 (one ∷ one ∷ [])
+    ∷ asked-again one (AwaitingCost one one) 2 3 (one ∷ one ∷ [])
+    ∷ asked-again one Ready 2 3 (nought ∷ nought ∷ [])
+    ∷ asked-again one Ready 0 0 (one ∷ one ∷ [])
+    ∷ asked-again one Ready 1000 1000 (one ∷ one ∷ [])
+    ∷ asked-again one Ready 1001 0 (one ∷ one ∷ [])
+    ∷ told-again Ready 3 nan
+    ∷ told-again (AwaitingCost one one) 2 nan
+    ∷ []
+    ≡ 0 ∷ 5 ∷ 9 ∷ 0 ∷ 2 ∷ 2 ∷ 2 ∷ 9 ∷ 2 ∷ 2 ∷ 0 ∷ []
+unfolding zeros proposal judgement Choice.kernel ofBits add sub mul div neg lt le eq isNan
+hidden-lowest = refl
+
+-- the station of above, with an allowance
+abbrev patient : ℕ → Station
+patient allowance = record { session = record { settings = allowing allowance (by-default 1 5); state = station .session .state }; lent = station .lent }
+
+abbrev count-of : List (Call Request) → ℕ
+count-of cs = final (respond chosen) (patient 2) cs .session .state .count
+
+-- a trial answered with F and a gradient: where that is (1.5, 2), z is (0, 0), q is 0, and the answer is refused by 8
+abbrev trial-of : (F : Float) → (G : List Float) → List (Call Request)
+trial-of F G = call (propose 2) ∷ call (answer 2 F G) ∷ []
+
+-- A NaN is one more, another answer ends the row, and a NaN that is refused by 8 leaves the count.
+pub record Counted : Type 0 where
+  pub one-more : count-of (trial-of nan ((3 over 2) ∷ nought ∷ [])) ≡ 1
+  pub other : count-of (trial-of nan ((3 over 2) ∷ nought ∷ []) ++ trial-of one ((3 over 2) ∷ nought ∷ [])) ≡ 0
+  pub by-8 : map (λ (e : Entry Request Told). numbered (e .reply)) (run (respond chosen) (patient 2) (trial-of nan ((3 over 2) ∷ (2 over 1) ∷ []))) ≡ 0 ∷ 8 ∷ []
+  pub left : count-of (trial-of nan ((3 over 2) ∷ (2 over 1) ∷ [])) ≡ 0
+
+pub counted-right : Counted
+unfolding station _over_ zeros respond Choice.kernel ofBits add sub mul div neg lt le eq isNan
+counted-right = record { one-more = refl; other = refl; by-8 = refl; left = refl }

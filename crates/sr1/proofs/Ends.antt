@@ -4,8 +4,10 @@ use mathlib.Core.Bool.{Bool, true, false, cond, not}
 use mathlib.Core.List.{List, [], _∷_}
 use Prim.Native.Nat.{ℕ, zero, suc, _≤_}
 use native.Mathlib.Omega.{arith}
+use lib.Dec.{leb}
 use lib.ListN.{length}
 use lib.Ieee.{Float, lt}
+use lib.Ieee.Bits.{is-true}
 use borrow.Author.Tests.{eqb-true}
 use Rattle.float.specs.Numbers.{finite, magnitude}
 use Rattle.float.proofs.Commute.{mul-commutes}
@@ -20,11 +22,12 @@ use Rattle.vectors.proofs.Sizes.{Each, each-holds}
 use Rattle.kernels.proofs.Choices.{in-range-known}
 use Rattle.kernels.proofs.Kernels.{unless-passed, unless-failed, early, first-passed}
 use Rattle.offer.specs.Offer.{all-sized, cost-taken, start-checks, proposal-checks, Offer, stepping}
-use Rattle.offer.specs.State.{begin, moved, steady, Promise, promised}
+use Rattle.offer.specs.State.{begin, moved, counted, steady, Promise, promised}
 use Rattle.offer.specs.Calls.{replaced, offering, Offers}
 use Rattle.offer.specs.declared.Asked.{Asked}
 use Rattle.offer.specs.declared.Offered.{Offered}
-use Rattle.offer.proofs.Checks.{then-unless}
+use Rattle.offer.proofs.Checks.{passed-none, then-unless, not-not}
+use Rattle.offer.proofs.Counts.{count-small}
 use Rattle.offer.proofs.Lengths.{Lent, lent-true, copied}
 use Rattle.offer.proofs.Offers.{offers-kernel, offered-elim}
 use Rattle.sr1.specs.Settings.{ranges, in-range, chosen}
@@ -50,13 +53,26 @@ module _ (t : Settings) (f : Float) (v : Verdict) (judges : v ≡ judged (start-
   unfolding start
   starts e radius m state is = rw (is, m, unless-passed (start-checks (in-range t) f) _ (sym judges ∙ e))
 
+-- ---- a sound session
+
+-- what it was asked
+abbrev sound-tests : Session → List Bool
+sound-tests s = in-range (s .settings) ∷ steady (s .state) ∷ leb (s .state .count) (s .settings .allowance) ∷ []
+
+-- its count is small
+sound-small : (s : Session) → sound s ≡ true → s .state .count ≤ 1000
+unfolding sound in-range
+sound-small s e =
+    let t = each-holds (sound-tests s) e in
+    count-small (s .settings .allowance) (s .state .count) (each-holds (ranges (s .settings)) (t .0) .1 .1 .1 .1 .1 .1 .1 .1 .0) (t .1 .1 .0)
+
 -- ---- the proposal
 
 -- a sound session's settings name a kernel
 kernel-known : (s : Session) → sound s ≡ true → Choice.known (s .settings .choice .kernel) ≡ true
 unfolding sound in-range
 kernel-known s e =
-    let ranged = each-holds (in-range (s .settings) ∷ steady (s .state) ∷ []) e .0 in
+    let ranged = each-holds (sound-tests s) e .0 in
     in-range-known (s .settings .choice) (each-holds (ranges (s .settings)) ranged .0)
 
 -- the kernels' p·g is document 01's g·s
@@ -71,7 +87,7 @@ dot-commutes a b e = rw e (dot-to-commutes a b (length b))
 
 -- what a session lends of itself
 abbrev pub asking : Session → Asked
-asking s = record { choice = s .settings .choice; sound = sound s; state = s .state }
+asking s = record { choice = s .settings .choice; allowance = s .settings .allowance; sound = sound s; state = s .state }
 
 -- `after` is what the code returns, or the session of that
 module _ (s : Session) (n : ℕ) (point gradient hessian step trial scratch : List Float) (b : Bool) (is-done : b ≡ converged s gradient) where
@@ -83,7 +99,7 @@ module _ (s : Session) (n : ℕ) (point gradient hessian step trial scratch : Li
 
   -- unless it is done
   abbrev going-on : Bool → Answer Proposal
-  going-on t = cond t (given (done s step trial)) (keeping (stepping (chosen (s .settings)) n (s .state .radius) point gradient hessian))
+  going-on t = cond t (given (done s step trial)) (keeping (stepping (chosen (s .settings)) (s .settings .allowance) (s .state) n point gradient hessian))
 
   abbrev proposes : After → (step′ trial′ scratch′ : List Float) → Type 0
   proposes = Proposes (proposal chosen s n point gradient hessian step trial scratch) s step trial scratch
@@ -108,7 +124,7 @@ module _ (s : Session) (n : ℕ) (point gradient hessian step trial scratch : Li
     follows =
         on-done ∙ rw t
         (sym (ap keeping (offers-kernel (asking s) n point gradient hessian step trial scratch (kernel-known s))
-        ∙ then-unless (λ (o : Offer). given (awaiting s n gradient hessian o)) checks (stepping (chosen (s .settings)) n (s .state .radius) point gradient hessian)))
+        ∙ then-unless (λ (o : Offer). given (awaiting s n gradient hessian o)) checks (stepping (chosen (s .settings)) (s .settings .allowance) (s .state) n point gradient hessian)))
 
     module _ (after : After) (is : after ≡ after-offer s found) where
       abbrev meets : Answer Offer → Type 0
@@ -145,6 +161,10 @@ module _ (s : Session) (n : ℕ) (F : Float) (new-gradient point step trial grad
 
     sizes-right : Each sizes-asked
     sizes-right = each-holds sizes-asked (first-passed (all-hold sizes-asked) Size ((Setting if not (sound s)) ∷ []) passed)
+
+    -- what `counted` asks
+    pub count-ready : s .state .count ≤ 1000
+    count-ready = sound-small s (is-true _ (not-not (sound s) (passed-none answer-checked passed .1 .0)))
 
     answer-lent : Lent n (length point) (length gradient) (length hessian) (length step) (length trial) (length scratch)
     answer-lent = lent-true n (length point) (length gradient) (length hessian) (length step) (length trial) (length scratch) (sizes-right .0)
@@ -194,7 +214,7 @@ module _ (s : Session) (n : ℕ) (F : Float) (new-gradient point step trial grad
             let bad : all-finite next-hessian ≡ false = sym (u .says) ∙ e in
             rw (on-answer, b, bad) (record { says = is; leaves-point = refl; leaves-gradient = refl; leaves-hessian = u .leaves ∙ rw bad; leaves-scratch = z })
 
-        module _ (e : r ≡ true) where
+        module _ (e : r ≡ true) (count : ℕ) (is-count : count ≡ counted F (s .state .count)) where
           good : all-finite next-hessian ≡ true
           good = sym (u .says) ∙ e
 
@@ -202,16 +222,16 @@ module _ (s : Session) (n : ℕ) (F : Float) (new-gradient point step trial grad
           settles = on-answer ∙ rw (b, good)
 
           pub judge-accepts : lt (s .settings .eta) x ≡ true → (passed : judged answer-checked ≡ Passed) (point′ gradient′ : List Float) → point′ ≡ replaced trial point → gradient′ ≡ replaced new-gradient gradient
-              → (state : State) → state ≡ moved (s .state) next F Ready → (k : After) → k ≡ saying (turned s state) (Accepted x) → judges-by k point′ gradient′ hessian′ scratch′
+              → (state : State) → state ≡ moved (s .state) next F Ready count → (k : After) → k ≡ saying (turned s state) (Accepted x) → judges-by k point′ gradient′ hessian′ scratch′
           unfolding settled
           judge-accepts t passed point′ gradient′ c d state f k is =
-              rw (is, f, settles, t)
+              rw (is, f, is-count, settles, t)
               (record { says = refl; leaves-point = c ∙ takes-trial passed; leaves-gradient = d ∙ takes-gradient passed; leaves-hessian = u .leaves ∙ rw good; leaves-scratch = z })
 
           pub judge-rejects : lt (s .settings .eta) x ≡ false
-              → (state : State) → state ≡ moved (s .state) next (s .state .cost) Ready → (k : After) → k ≡ saying (turned s state) (Rejected x) → judges-by k point gradient hessian′ scratch′
+              → (state : State) → state ≡ moved (s .state) next (s .state .cost) Ready count → (k : After) → k ≡ saying (turned s state) (Rejected x) → judges-by k point gradient hessian′ scratch′
           unfolding settled
-          judge-rejects t state f k is = rw (is, f, settles, t) (record { says = refl; leaves-point = refl; leaves-gradient = refl; leaves-hessian = u .leaves ∙ rw good; leaves-scratch = z })
+          judge-rejects t state f k is = rw (is, f, is-count, settles, t) (record { says = refl; leaves-point = refl; leaves-gradient = refl; leaves-hessian = u .leaves ∙ rw good; leaves-scratch = z })
 
   module _ (v : Verdict) (judges : v ≡ judged answer-checked) where
     pub judges-not : (r : Refusal) → v ≡ Failed r → (after : After) → after ≡ saying s (Refused r)

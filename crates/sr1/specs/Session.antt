@@ -3,6 +3,7 @@
 use mathlib.Core.Bool.{Bool, not, _&&_, cond}
 use mathlib.Core.List.{List, [], _∷_}
 use Prim.Native.Nat.{ℕ}
+use lib.Dec.{leb}
 use lib.Ieee.{Float, lt, le, neg}
 use Rattle.float.specs.Numbers.{_⊕_, _⊖_, _⊗_, _⊘_, finite, magnitude}
 use Rattle.float.specs.Constants.{one, two, half, three-quarters, tenth, four-fifths}
@@ -12,7 +13,7 @@ use Rattle.kernels.specs.Kernel.{Kernel}
 use Rattle.vectors.specs.declared.refusal.Refusal.the-variants.{Size, Setting, Entry, Range}
 use Rattle.sr1.specs.Settings.{in-range}
 use Rattle.offer.specs.Offer.{all-sized, cost-taken, start-checks, proposal-checks, Offer, offer, stepping}
-use Rattle.offer.specs.State.{begin, moved, in-phase, steady, Promise, promised}
+use Rattle.offer.specs.State.{begin, moved, in-phase, counted, steady, Promise, promised}
 use Rattle.sr1.specs.declared.settings.Settings.{Settings}
 use Rattle.sr1.specs.declared.session.Session.{Session}
 use Rattle.offer.specs.declared.state.State.{State}
@@ -20,10 +21,11 @@ use Rattle.offer.specs.declared.state.Phase.the-variants.{Ready, AwaitingCost}
 use Rattle.offer.specs.declared.state.Outcome.{Outcome}
 use Rattle.offer.specs.declared.state.Outcome.the-variants.{Done, Proposed}
 
--- not "a setting out of range or not finite, or a session with negative or not finite radius, or cost not finite"; "a session checks all settings of its kind, whatever its kernel"
+-- not "a setting out of range or not finite, or a session with negative or not finite radius, or cost not finite"; "a session checks all settings of its kind, whatever its kernel";
+-- nor "a count above" the allowance
 unfoldable pub sound : Session → Bool
 unfolding in-range finite
-sound s = all-hold (in-range (s .settings) ∷ steady (s .state) ∷ [])
+sound s = all-hold (in-range (s .settings) ∷ steady (s .state) ∷ leb (s .state .count) (s .settings .allowance) ∷ [])
 
 -- the session in another state
 abbrev pub turned : Session → State → Session
@@ -67,13 +69,13 @@ awaiting s n gradient hessian o = record {
   trial = o .trial;
 }
 
--- done is "tested when a proposal is asked for, after refusals 1 to 4 and before 5"; refusals 5 to 8 are `stepping`'s
+-- done is "tested when a proposal is asked for, after refusals 1 to 4 and before 5"; refusals 5, 9 and 6 to 8 are `stepping`'s
 unfoldable pub proposal : (Settings → Kernel) → Session → ℕ → (point gradient hessian step trial scratch : List Float) → Answer Proposal
 unfolding size sound all-finite converged offer awaiting
 proposal kernel s n point gradient hessian step trial scratch =
     unless (proposal-checks (sound s) (s .state) n point gradient hessian step trial scratch)
     (cond (converged s gradient) (given (done s step trial))
-    (then (λ (o : Offer). given (awaiting s n gradient hessian o)) (stepping (kernel (s .settings)) n (s .state .radius) point gradient hessian)))
+    (then (λ (o : Offer). given (awaiting s n gradient hessian o)) (stepping (kernel (s .settings)) (s .settings .allowance) (s .state) n point gradient hessian)))
 
 -- ---- the answer with a cost F and a gradient G
 
@@ -133,7 +135,7 @@ unfoldable pub settled : Session → (F ratio radius : Float) → (new-gradient 
 settled s F ratio radius new-gradient point trial gradient hessian =
     let accepts = lt (s .settings .eta) ratio in
     record {
-      session = turned s (moved (s .state) radius (cond accepts F (s .state .cost)) Ready);
+      session = turned s (moved (s .state) radius (cond accepts F (s .state .cost)) Ready (counted F (s .state .count)));
       point = cond accepts trial point;
       gradient = cond accepts new-gradient gradient;
       hessian = hessian;

@@ -9,17 +9,23 @@ use Rattle.vectors.specs.Refusal.{all-hold}
 use Rattle.kernels.specs.Kernel.{Kernel, positive}
 use Rattle.kernels.specs.Choice as Choice
 use Rattle.kernels.specs.declared.choice.Choice as kernels
+use Rattle.offer.specs.State.{allowable}
 use Rattle.sr1.specs.declared.settings.Settings.{Settings}
 
--- of what is told
+-- of what is told; the allowance has its default
 abbrev pub settings-of : kernels.Choice → (radius eta factor tol-grad : Float) → Settings
-settings-of choice radius eta factor tol-grad = record { choice = choice; radius = radius; eta = eta; factor = factor; «tol_grad» = tol-grad }
+settings-of choice radius eta factor tol-grad = record { choice = choice; radius = radius; eta = eta; factor = factor; «tol_grad» = tol-grad; allowance = 1000 }
+
+-- with another allowance
+abbrev pub allowing : ℕ → Settings → Settings
+allowing allowance t = record { choice = t .choice; radius = t .radius; eta = t .eta; factor = t .factor; «tol_grad» = t .«tol_grad»; allowance = allowance }
 
 -- "The defaults belong to the settings themselves as fixed numbers: .. SR1 radius 1, eta 0.5·1e-3, factor 1e-8, tol_grad 1e-3; epsilon 1e-9 .. The iteration limit has no default here."
 abbrev pub by-default : (kernel limit : ℕ) → Settings
 by-default kernel limit = settings-of (Choice.by-default kernel limit) one half-thousandth hundred-millionth thousandth
 
 -- "Settings must be finite. Kernel 1 to 3 (Cauchy, Dogleg, Steihaug); radius .. > 0; .. eta of SR1 in (0, 0.01); denominator factor in (0, 1); tol_grad ≥ 0; epsilon > 0; Steihaug's iteration limit 0 to 10,000. SR1's radius is taken by magnitude first."
+-- And "the most allowed, 1 to 1,000".
 abbrev pub ranges : Settings → List Bool
 ranges t =
     Choice.in-range (t .choice)
@@ -30,6 +36,7 @@ ranges t =
     ∷ lt (t .factor) one
     ∷ finite (t .«tol_grad»)
     ∷ le nought (t .«tol_grad»)
+    ∷ allowable (t .allowance)
     ∷ []
 
 unfoldable pub in-range : Settings → Bool

@@ -2,9 +2,10 @@
 use kernels::choice;
 use kernels::choice::Choice;
 use kernels::kernel;
+use offer::state;
 use vectors::refusal;
 ghost use mathlib.Core.Path.{_≡_};
-ghost use Rattle.sr1.specs.Settings.{by-default, settings-of, in-range};
+ghost use Rattle.sr1.specs.Settings.{by-default, settings-of, allowing, in-range};
 
 pub struct Settings {
     pub choice: Choice,
@@ -12,6 +13,7 @@ pub struct Settings {
     pub eta: f64,
     pub factor: f64,
     pub tol_grad: f64,
+    pub allowance: u64,
 }
 
 impl Settings {
@@ -22,6 +24,8 @@ impl Settings {
     pub const FACTOR: f64 = 1e-8;
 
     pub const TOL_GRAD: f64 = 1e-3;
+
+    pub const ALLOWANCE: u64 = 1000;
 
     // The defaults for all but the kernel and Steihaug's iteration limit, which have none.
     pub fn new(kernel: u64, limit: u64) -> Self
@@ -47,7 +51,16 @@ impl Settings {
             eta: eta,
             factor: factor,
             tol_grad: tol_grad,
+            allowance: Self::ALLOWANCE,
         }
+    }
+
+    // At most so many hidden trials in a row.
+    pub fn with_allowance(mut self, allowance: u64) -> Self
+        ensures { λ r. ⌜ r ≡ allowing allowance self ⌝ }
+    {
+        self.allowance = allowance;
+        self
     }
 }
 
@@ -66,6 +79,7 @@ pub fn in_range(t: Settings) -> bool
             t.factor < 1.0,
             float::finite(t.tol_grad),
             0.0 <= t.tol_grad,
+            state::allowable(t.allowance),
         ],
     )
 }

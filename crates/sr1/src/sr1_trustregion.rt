@@ -30,6 +30,7 @@ ghost use Rattle.vectors.specs.Slots.{Puts};
 ghost use Rattle.vectors.specs.Refusal.{judged, all-hold, Square};
 ghost use Rattle.vectors.specs.declared.refusal.Verdict.the-variants.{Passed};
 ghost use Rattle.offer.specs.Offer.{cost-taken};
+ghost use Rattle.offer.specs.State as state;
 ghost use Rattle.sr1.specs.Settings.{chosen};
 ghost use Rattle.sr1.specs.Session as Definition;
 ghost use Rattle.sr1.specs.Session.{proposal, residual, gained-row, gained, updated-by, updated, next-radius, judgement-checks, judgement};
@@ -103,6 +104,7 @@ pub fn proposed(
     let state = s.state;
     let asked = Asked {
         choice: choice,
+        allowance: s.settings.allowance,
         sound: session::sound(s),
         state: state,
     };
@@ -307,6 +309,17 @@ fn renew(
     done
 }
 
+// The count after an answer that is taken: a hidden trial is one more, any other ends the row.
+fn counted(cost: f64, count: u64) -> u64
+    requires { ⌜ count ≤ 1000 ⌝ }
+    ensures { λ r. ⌜ r ≡ state.counted cost count ⌝ }
+{
+    if float::is_nan(cost) {
+        return count + 1;
+    }
+    0
+}
+
 // The verdict on a trial that was promised on a predicted fall and a step norm.
 fn judge(
     s: Session,
@@ -347,18 +360,19 @@ fn judge(
     ) {
         return session::refusing(s, Refusal::Range);
     }
+    let count = counted(answer, s.state.count);
     if s.settings.eta < ratio {
         lent::copy(trial, point);
         lent::copy(new_gradient, gradient);
         return session::answering(
             s,
-            state::moved(s.state, next, answer, Phase::Ready),
+            state::moved(s.state, next, answer, Phase::Ready, count),
             Outcome::Accepted(ratio),
         );
     }
     session::answering(
         s,
-        state::moved(s.state, next, s.state.cost, Phase::Ready),
+        state::moved(s.state, next, s.state.cost, Phase::Ready, count),
         Outcome::Rejected(ratio),
     )
 }

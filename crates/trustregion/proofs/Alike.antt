@@ -1,4 +1,4 @@
--- Two stations that differ at most in what step, trial and scratch hold are answered alike, and stay so. Assumes nothing.
+-- Two stations that differ at most in the count, on one level, and in what step, trial and scratch hold, are answered alike; and stay so, but for the level. Assumes nothing.
 use mathlib.Core.Path.{_≡_, refl, sym, _∙_, subst}
 use mathlib.Core.List.{List}
 use Prim.Native.Nat.{ℕ}
@@ -21,7 +21,7 @@ use Rattle.trustregion.specs.Run.{Station, Request, Call, Reply, Done, o
 use Rattle.trustregion.specs.declared.settings.Settings.{Settings}
 use Rattle.offer.specs.declared.state.Phase.{Phase}
 use Rattle.offer.specs.declared.state.Phase.the-variants.{Ready, AwaitingCost, AwaitingDerivatives}
-use Rattle.trustregion.proofs.Answers.{joined, sizes, Held, promise-held, offered-at, judged-by, Came, refuses, offers, judges, renews, comes, alone}
+use Rattle.trustregion.proofs.Answers.{joined, Near, sizes, Held, promise-held, offered-at, judged-by, Came, refuses, offers, judges, renews, comes, alone}
 
 -- The same but for the rest, that as large, and where a cost is awaited the same step and trial.
 pub record Alike (s t : Station) : Type 0 where
@@ -78,12 +78,12 @@ came-follows kernel s t d e z held (offers n m fits ready i) =
 came-follows kernel s t d e z held (judges F p i w) =
     let h = held (promise-held (s .session .state .phase) p i) in
     record { reply = rw (h .0, h .1); after = record { same = rw (h .1); as-large = z; held = λ v. h } }
-came-follows kernel s t d e z held (renews g H) = record { reply = refl; after = record { same = refl; as-large = z; held = λ w. absurd w } }
+came-follows kernel s t d e z held (renews g H due) = record { reply = refl; after = record { same = refl; as-large = z; held = λ w. absurd w } }
 
-follow-own : (kernel : Settings → Kernel) (q : Request) (s t : Station) → Alike s t → Follows (respond kernel) Alike (respond kernel q s) (respond kernel q t)
-follow-own kernel q s t a =
+follow-own : (kernel : Settings → Kernel) (q : Request) (s t : Station) → Near s t → Alike s t → Follows (respond kernel) Alike (respond kernel q s) (respond kernel q t)
+follow-own kernel q s t near a =
     subst (λ (x : Station). Follows (respond kernel) Alike (respond kernel q s) (respond kernel q x)) (a .same)
-    (came-follows kernel s t _ _ (a .as-large) (a .held) (comes kernel s t (a .as-large) (a .held) q))
+    (came-follows kernel s t _ _ (a .as-large) (a .held) (comes kernel s t near (a .as-large) (a .held) q))
 
 -- ---- a refused call keeps
 
@@ -92,7 +92,7 @@ unfolding on-proposal on-judgement on-renewal
 came-refused kernel s t d e (refuses r w v l m) u = record { same = refl; as-large = λ i. (length (s .lent .step), length (s .lent .trial), l i); held = λ h. (refl, refl) }
 came-refused kernel s t d e (offers n m z u i) w = absurd w
 came-refused kernel s t d e (judges F p i u) w = absurd w
-came-refused kernel s t d e (renews g H) w = absurd w
+came-refused kernel s t d e (renews g H due) w = absurd w
 
 pub refused-keeps : (kernel : Settings → Kernel) (c : Call) (s : Station) → T (was-refused (perform (respond kernel) c s .reply)) → Alike (perform (respond kernel) c s .after) s
 refused-keeps kernel = perform-elim (respond kernel) (λ (s : Station) (d : Done). T (was-refused (d .reply)) → Alike (d .after) s) (λ v s d h w. elsewhere (s .lent) (d .after) (lending-it v s) (h w))
@@ -103,18 +103,18 @@ by-1-refused (refused r) w = tt
 by-1-refused (given a) w = absurd w
 
 -- where each call that is not refused by 1 is lent the station's own
-pub follow : (kernel : Settings → Kernel) (c : Call) (s t : Station) → T (lent-at (entry (respond kernel) c s)) → Alike s t → Follows (respond kernel) Alike (perform (respond kernel) c s) (perform (respond kernel) c t)
+pub follow : (kernel : Settings → Kernel) (c : Call) (s t : Station) → T (lent-at (entry (respond kernel) c s)) → Near s t → Alike s t → Follows (respond kernel) Alike (perform (respond kernel) c s) (perform (respond kernel) c t)
 follow kernel c s t = go (c .lending)
   where
     q : Request
     q = c .request
 
     go : (l : Lending) → let x : Call = record { request = q; lending = l } in
-        T (lent-at (entry (respond kernel) x s)) → Alike s t → Follows (respond kernel) Alike (perform (respond kernel) x s) (perform (respond kernel) x t)
-    go own w a = follow-own kernel q s t a
-    go (others v) w a =
+        T (lent-at (entry (respond kernel) x s)) → Near s t → Alike s t → Follows (respond kernel) Alike (perform (respond kernel) x s) (perform (respond kernel) x t)
+    go own w near a = follow-own kernel q s t near a
+    go (others v) w near a =
         let x : Call = record { request = q; lending = others v } in
-        let e = follow-own kernel q (lending-it v s) (lending-it v t) (elsewhere v s t a) .reply in
+        let e = follow-own kernel q (lending-it v s) (lending-it v t) near (elsewhere v s t a) .reply in
         let r : T (was-refused (perform (respond kernel) x s .reply)) = by-1-refused (perform (respond kernel) x s .reply) w in
         record {
           reply = e;
@@ -142,7 +142,7 @@ unfolding on-proposal on-judgement on-renewal
 came-nan kernel s t d e (refuses r w v l m) u = absurd u
 came-nan kernel s t d e (offers n m z u i) w = absurd w
 came-nan kernel s t d e (judges F p i u) w = subst (λ (x : Float). Alike (on-judgement s x (given (judged-by s x p)) .after) (back s)) (sym (is-nan F (is-true (isNan F) w))) (judged-nan s p)
-came-nan kernel s t d e (renews g H) w = absurd w
+came-nan kernel s t d e (renews g H due) w = absurd w
 
 pub nan-closes : (kernel : Settings → Kernel) (c : Call) (s : Station) → T (took-nan (perform (respond kernel) c s .reply)) → Alike (perform (respond kernel) c s .after) (back s)
 nan-closes kernel = perform-elim (respond kernel) (λ (s : Station) (d : Done). T (took-nan (d .reply)) → Alike (d .after) (back s)) (λ v s d h w. elsewhere (s .lent) (d .after) (back (lending-it v s)) (h w))
@@ -150,7 +150,7 @@ nan-closes kernel = perform-elim (respond kernel) (λ (s : Station) (d : Done). 
 
 -- ---- and so, but for the phase, does a proposal that is made
 
-ready-is : (phase : Phase) → T (is-ready phase) → Ready ≡ phase
+pub ready-is : (phase : Phase) → T (is-ready phase) → Ready ≡ phase
 ready-is Ready w = refl
 ready-is (AwaitingCost m o) w = absurd w
 ready-is AwaitingDerivatives w = absurd w
@@ -170,7 +170,7 @@ module _ (kernel : Settings → Kernel) (proper : (t : Settings) (n : ℕ) (radi
         held = λ v. absurd v;
       }
   came-opens s t d e (judges F p i u) w = absurd w
-  came-opens s t d e (renews g H) w = absurd w
+  came-opens s t d e (renews g H due) w = absurd w
 
   pub proposal-opens : (c : Call) (s : Station) → T (opens-trial (perform (respond kernel) c s .reply)) → Alike (back (perform (respond kernel) c s .after)) s
   proposal-opens = perform-elim (respond kernel) (λ (s : Station) (d : Done). T (opens-trial (d .reply)) → Alike (back (d .after)) s) (λ v s d h w. elsewhere (s .lent) (back (d .after)) (lending-it v s) (h w))

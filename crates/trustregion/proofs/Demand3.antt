@@ -1,5 +1,5 @@
 -- Demand 3, of every choice of kernels whose steps have n numbers, and of ours. Assumes nothing.
-use mathlib.Core.Path.{_≡_, sym, _∙_, subst}
+use mathlib.Core.Path.{_≡_, refl, sym, _∙_, subst}
 use mathlib.Core.Bool.{false, not}
 use mathlib.Core.List.{List}
 use Prim.Native.Nat.{ℕ}
@@ -13,17 +13,18 @@ use Rattle.offer.specs.Offer.{start-checks}
 use Rattle.trustregion.specs.Session.{start}
 use Rattle.offer.specs.State.{awaits-cost}
 use Rattle.offer.specs.Run.{Trial, run, final, calls, lent-same, Thinned}
-use Rattle.trustregion.specs.Run.{Station, Call, Entry, respond, strike}
-use Rattle.trustregion.specs.Demand3.{Fair, Within, Same-run, Demand-3}
+use Rattle.trustregion.specs.Run.{Station, Call, Entry, respond, never-reaches, strike}
+use Rattle.trustregion.specs.Demand3.{Fair, Within, Same-run, Demand-3, Too-hidden}
 use Rattle.trustregion.specs.declared.settings.Settings.{Settings}
 use Rattle.trustregion.specs.declared.session.Session.{Session}
 use Rattle.offer.proofs.Checks.{unless-elim, clash}
-use Rattle.offer.proofs.Runs.{Replays, thinned-replays}
+use Rattle.offer.proofs.Runs.{Replays}
 use Rattle.trustregion.proofs.Answers.{joined}
-use Rattle.trustregion.proofs.Alike.{Alike, alike-refl, alike-trans, refused-keeps, follow}
-use Rattle.trustregion.proofs.Replay.{strike-replays, strike-lent}
-use Rattle.trustregion.proofs.Trials.{strike-seen, thinned-trials}
+use Rattle.trustregion.proofs.Alike.{Alike, alike-refl}
+use Rattle.trustregion.proofs.Replay.{strike-replays}
+use Rattle.trustregion.proofs.Trials.{Clear, strike-seen, thinned-trials}
 use Rattle.trustregion.proofs.Fair.{run-sound}
+use Rattle.trustregion.proofs.Hidden.{too-hidden}
 
 -- each answer is a step of n numbers, or a refusal from 6 on
 abbrev pub All-proper : (Settings → Kernel) → Type 0
@@ -32,22 +33,16 @@ All-proper kernel = (t : Settings) (n : ℕ) (radius : Float) (g H : List Float)
 module _ (kernel : Settings → Kernel) (proper : All-proper kernel) where
   struck : (start : Station) → T (not (awaits-cost (start .session .state .phase)))
       → (whole : List Call) → T (lent-same (run (respond kernel) start whole))
+      → T (never-reaches (start .session .settings .allowance) (start .session .state .count) (run (respond kernel) start whole))
       → (kept : List Entry) → Thinned (strike (run (respond kernel) start whole)) kept
       → Same-run kernel start whole kept
-  struck start idle whole lent kept thin =
-      let left : List Entry = strike (run (respond kernel) start whole) in
-      let a : Replays (respond kernel) Alike start whole start left = strike-replays kernel proper whole false start start lent (alike-refl start) in
-      let b : Replays (respond kernel) Alike start (calls left) start kept =
-      thinned-replays (respond kernel) Alike (follow kernel) (λ c s t w a. alike-trans _ s t (refused-keeps kernel c s w) a) (calls left) start start kept
-      (subst (λ (es : List Entry). T (lent-same es)) (sym (a .replies)) (strike-lent false (run (respond kernel) start whole) lent))
-      (subst (λ (es : List Entry). Thinned es kept) (sym (a .replies)) thin)
-      (alike-refl start) in
-      let e : Alike (final (respond kernel) start whole) (final (respond kernel) start (calls kept)) =
-      alike-trans (final (respond kernel) start whole) (final (respond kernel) start (calls left)) (final (respond kernel) start (calls kept)) (a .ends) (b .ends) in
-      let ends : final (respond kernel) start (calls kept) ≡ joined (final (respond kernel) start whole) (final (respond kernel) start (calls kept)) = sym (e .same) in
+  struck start idle whole lent never kept thin =
+      let clear : Clear kernel false start whole = λ w. absurd (T-not (awaits-cost (start .session .state .phase)) idle w) in
+      let a : Replays (respond kernel) Alike start whole start kept = strike-replays kernel proper whole false start start kept lent never clear (alike-refl start, refl) thin in
+      let ends : final (respond kernel) start (calls kept) ≡ joined (final (respond kernel) start whole) (final (respond kernel) start (calls kept)) = sym (a .ends .same) in
       record {
-        replies = b .replies;
-        kept-trials = thinned-trials thin ∙ strike-seen kernel whole false start (λ w. absurd (T-not (awaits-cost (start .session .state .phase)) idle w));
+        replies = a .replies;
+        kept-trials = thinned-trials thin ∙ strike-seen kernel whole false start clear;
         phase = λ i. ends i .session .state .phase;
         radius = λ i. ends i .session .state .radius;
         point = λ i. ends i .lent .point;
@@ -76,3 +71,7 @@ started-idle t f s = unless-elim (λ (a : Answer Session). a ≡ given s → T (
 
 pub for-our-kernels : Demand-3 chosen
 for-our-kernels = for-proper chosen (λ t. kernel-proper (t .choice))
+
+-- the count is there to stop a session that would go on so all night
+pub stops-our-kernels : Too-hidden chosen
+stops-our-kernels = too-hidden chosen (λ t. kernel-proper (t .choice))

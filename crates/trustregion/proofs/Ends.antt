@@ -1,29 +1,30 @@
 -- How each call ends: its contract, from what its code has found out. Assumes nothing.
 use mathlib.Core.Path.{_≡_, refl, sym, ap, _∙_}
-use mathlib.Core.Bool.{Bool, true, false, not, _&&_}
+use mathlib.Core.Bool.{Bool, true, false, _&&_}
 use mathlib.Core.List.{List, [], _∷_}
-use Prim.Native.Nat.{ℕ, _*_}
-use lib.Dec.{eqb}
+use Prim.Native.Nat.{ℕ, _*_, _≤_}
+use lib.Dec.{eqb, leb}
 use lib.ListN.{length}
 use lib.Ieee.{Float, lt}
 use lib.Ieee.Bits.{is-true}
 use borrow.Author.Tests.{eqb-true}
 use Rattle.float.specs.Numbers.{finite}
 use Rattle.vectors.specs.Vector.{all-finite}
-use Rattle.vectors.specs.Refusal.{Answer, refused, given, _if_, then, judged, all-hold, size, sized}
+use Rattle.vectors.specs.Refusal.{Answer, refused, given, then, judged, all-hold, size, sized}
 use Rattle.kernels.specs.Choice as Choice
 use Rattle.vectors.specs.declared.refusal.Refusal.{Refusal}
-use Rattle.vectors.specs.declared.refusal.Refusal.the-variants.{Size, Setting, Turn, Entry, Range}
+use Rattle.vectors.specs.declared.refusal.Refusal.the-variants.{Turn, Entry, Range}
 use Rattle.vectors.specs.declared.refusal.Verdict.{Verdict}
 use Rattle.vectors.specs.declared.refusal.Verdict.the-variants.{Passed, Failed}
 use Rattle.vectors.proofs.Sizes.{each-holds, vectors-true}
 use Rattle.kernels.proofs.Choices.{in-range-known}
-use Rattle.kernels.proofs.Kernels.{unless-passed, unless-failed, first-passed}
+use Rattle.kernels.proofs.Kernels.{unless-passed, unless-failed}
 use Rattle.offer.specs.Offer.{cost-taken, start-checks, proposal-checks, Offer, stepping}
-use Rattle.offer.specs.State.{begin, moved, in-phase, steady, Promise, promised}
+use Rattle.offer.specs.State.{begin, moved, counted, steady, Promise, promised}
 use Rattle.offer.specs.Calls.{replaced, offering, Offers}
 use Rattle.offer.specs.declared.Asked.{Asked}
 use Rattle.offer.specs.declared.Offered.{Offered}
+use Rattle.offer.proofs.Counts.{count-small}
 use Rattle.offer.proofs.Lengths.{copied}
 use Rattle.offer.proofs.Offers.{offers-kernel}
 use Rattle.trustregion.specs.Settings.{ranges, in-range, chosen}
@@ -50,18 +51,31 @@ module _ (t : Settings) (f : Float) (v : Verdict) (judges : v ≡ judged (start-
   unfolding start
   starts e state is = rw (is, unless-passed (start-checks (in-range t) f) _ (sym judges ∙ e))
 
+-- ---- a sound session
+
+-- what it was asked
+abbrev pub sound-tests : Session → List Bool
+sound-tests s = in-range (s .settings) ∷ steady (s .state) ∷ leb (s .state .count) (s .settings .allowance) ∷ []
+
+-- its count is small
+pub sound-small : (s : Session) → sound s ≡ true → s .state .count ≤ 1000
+unfolding sound in-range
+sound-small s e =
+    let t = each-holds (sound-tests s) e in
+    count-small (s .settings .allowance) (s .state .count) (each-holds (ranges (s .settings)) (t .0) .1 .1 .1 .1 .1 .1 .0) (t .1 .1 .0)
+
 -- ---- the proposal
 
 -- a sound session's settings name a kernel
 kernel-known : (s : Session) → sound s ≡ true → Choice.known (s .settings .choice .kernel) ≡ true
 unfolding sound in-range
 kernel-known s e =
-    let ranged = each-holds (in-range (s .settings) ∷ steady (s .state) ∷ []) e .0 in
+    let ranged = each-holds (sound-tests s) e .0 in
     in-range-known (s .settings .choice) (each-holds (ranges (s .settings)) ranged .0)
 
 -- what a session lends of itself
 abbrev pub asking : Session → Asked
-asking s = record { choice = s .settings .choice; sound = sound s; state = s .state }
+asking s = record { choice = s .settings .choice; allowance = s .settings .allowance; sound = sound s; state = s .state }
 
 -- `after` is what the code returns, or the session of that
 module _ (s : Session) (n : ℕ) (point gradient hessian step trial scratch : List Float) where
@@ -74,7 +88,7 @@ module _ (s : Session) (n : ℕ) (point gradient hessian step trial scratch : Li
   follows =
       sym (ap keeping (offers-kernel (asking s) n point gradient hessian step trial scratch (kernel-known s))
       ∙ then-unless (λ (o : Offer). given (awaiting s n gradient hessian o)) (proposal-checks (sound s) (s .state) n point gradient hessian step trial scratch)
-      (stepping (chosen (s .settings)) n (s .state .radius) point gradient hessian))
+      (stepping (chosen (s .settings)) (s .settings .allowance) (s .state) n point gradient hessian))
 
   pub proposes-offer : (found : Offered) (step′ trial′ scratch′ : List Float) → Offers n gradient hessian (offering (asking s) n point gradient hessian step trial scratch) found step trial scratch step′ trial′ scratch′
       → (after : After) → after ≡ after-offer s found → Proposes (proposal chosen s n point gradient hessian step trial scratch) s step trial scratch after step′ trial′ scratch′
@@ -107,19 +121,19 @@ module _ (s : Session) (F : Float) (point trial : List Float) (p : Promise) wher
     pub judge-far : finite next ≡ false → (after : After) → after ≡ saying s (Refused Range) → judges-by after point
     judge-far b after is = rw (on-answer, b) (record { says = is; leaves-point = refl })
 
-    module _ (b : finite next ≡ true) where
+    module _ (b : finite next ≡ true) (count : ℕ) (is-count : count ≡ counted F (s .state .count)) where
       settles : judge s F point trial p ≡ given (settled s F x next point trial)
       settles = on-answer ∙ rw b
 
       pub judge-accepts : lt (s .settings .eta) x ≡ true → length point ≡ length trial → (point′ : List Float) → point′ ≡ replaced trial point
-          → (state : State) → state ≡ moved (s .state) next F AwaitingDerivatives → (r : After) → r ≡ saying (turned s state) (Accepted x) → judges-by r point′
+          → (state : State) → state ≡ moved (s .state) next F AwaitingDerivatives count → (r : After) → r ≡ saying (turned s state) (Accepted x) → judges-by r point′
       unfolding settled
-      judge-accepts t l point′ c state e r is = rw (is, e, settles, t) (record { says = refl; leaves-point = c ∙ copied trial point l })
+      judge-accepts t l point′ c state e r is = rw (is, e, is-count, settles, t) (record { says = refl; leaves-point = c ∙ copied trial point l })
 
       pub judge-rejects : lt (s .settings .eta) x ≡ false
-          → (state : State) → state ≡ moved (s .state) next (s .state .cost) Ready → (r : After) → r ≡ saying (turned s state) (Rejected x) → judges-by r point
+          → (state : State) → state ≡ moved (s .state) next (s .state .cost) Ready count → (r : After) → r ≡ saying (turned s state) (Rejected x) → judges-by r point
       unfolding settled
-      judge-rejects t state e r is = rw (is, e, settles, t) (record { says = refl; leaves-point = refl })
+      judge-rejects t state e r is = rw (is, e, is-count, settles, t) (record { says = refl; leaves-point = refl })
 
 module _ (s : Session) (n : ℕ) (F : Float) (point trial : List Float) (v : Verdict) (judges : v ≡ judged (judgement-checks s n point trial)) where
   pub judges-not : (r : Refusal) → v ≡ Failed r → (after : After) → after ≡ saying s (Refused r) → Judges (judgement s n F point trial) s point after point
@@ -127,10 +141,11 @@ module _ (s : Session) (n : ℕ) (F : Float) (point trial : List Float) (v : Ver
   judges-not r e after is = rw (unless-failed (judgement-checks s n point trial) (then (judge s F point trial) (promised (s .state .phase))) r (sym judges ∙ e)) (record { says = is; leaves-point = refl })
 
   module _ (e : v ≡ Passed) where
-    pub judged-lengths : length point ≡ length trial
-    judged-lengths =
-        let l = vectors-true n (length point) (length trial) (first-passed (all-hold (size n ∷ sized n point ∷ sized n trial ∷ [])) Size ((Setting if not (sound s)) ∷ []) (sym judges ∙ e)) in
-        l .0 ∙ sym (l .1)
+    pub judge-ready : (length point ≡ length trial) × (s .state .count ≤ 1000)
+    judge-ready =
+        let none = passed-none (judgement-checks s n point trial) (sym judges ∙ e) in
+        let l = vectors-true n (length point) (length trial) (is-true _ (not-not (all-hold (size n ∷ sized n point ∷ sized n trial ∷ [])) (none .0))) in
+        (l .0 ∙ sym (l .1), sound-small s (is-true _ (not-not (sound s) (none .1 .0))))
 
     on-promise : judgement s n F point trial ≡ then (judge s F point trial) (promised (s .state .phase))
     unfolding judgement
@@ -159,7 +174,7 @@ module _ (s : Session) (n : ℕ) (new-gradient new-hessian gradient hessian : Li
       (record { says = is; leaves-gradient = refl; leaves-hessian = refl })
 
   pub renews : v ≡ Passed → (gradient′ hessian′ : List Float) → gradient′ ≡ replaced new-gradient gradient → hessian′ ≡ replaced new-hessian hessian
-      → (state : State) → state ≡ in-phase Ready (s .state) → (r : After) → r ≡ saying (turned s state) Taken → Renews (renewal s n new-gradient new-hessian gradient hessian) s gradient hessian r gradient′ hessian′
+      → (state : State) → state ≡ moved (s .state) (s .state .radius) (s .state .cost) Ready 0 → (r : After) → r ≡ saying (turned s state) Taken → Renews (renewal s n new-gradient new-hessian gradient hessian) s gradient hessian r gradient′ hessian′
   unfolding renewal
   renews e gradient′ hessian′ g h state t r is =
       let sizes = is-true _ (not-not (renewal-sized n new-gradient new-hessian gradient hessian) (passed-none (renewal-checks s n new-gradient new-hessian gradient hessian) (sym judges ∙ e) .0)) in

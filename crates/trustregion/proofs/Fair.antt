@@ -14,7 +14,7 @@ use Rattle.vectors.specs.Refusal.{refused, given}
 use Rattle.vectors.proofs.Sizes.{both, each-holds}
 use Rattle.kernels.specs.Kernel.{Kernel, positive}
 use Rattle.trustregion.specs.Settings.{ranges, in-range}
-use Rattle.offer.specs.State.{steady, Promise}
+use Rattle.offer.specs.State.{Promise}
 use Rattle.trustregion.specs.Session.{sound, awaiting, rho, next-radius, settled}
 use Rattle.offer.specs.Run.{Trial, perform, run, Every}
 use Rattle.trustregion.specs.Run.{Station, Call, proposed, judged, renewed, Reply, Done, Entry, on-proposal, on-judgement, on-renewal, respond, trials}
@@ -23,6 +23,7 @@ use Rattle.trustregion.specs.declared.settings.Settings.{Settings}
 use Rattle.trustregion.specs.declared.session.Session.{Session}
 use Rattle.offer.proofs.Checks.{cond-elim}
 use Rattle.offer.proofs.Runs.{perform-elim, run-keeps}
+use Rattle.trustregion.proofs.Ends.{sound-tests}
 use Rattle.trustregion.proofs.Answers.{Came, refuses, offers, judges, renews, alone}
 
 true-is : (b : Bool) → b ≡ true → T b
@@ -39,7 +40,7 @@ bounds : (s : Session) → T (sound s) → Bounds (s .settings)
 unfolding sound in-range positive
 bounds s w =
     let t = s .settings in
-    let e = each-holds (ranges t) (each-holds (in-range t ∷ steady (s .state) ∷ []) (is-true _ w) .0) in
+    let e = each-holds (ranges t) (each-holds (sound-tests s) (is-true _ w) .0) in
     record {
       eta = true-is _ (e .1 .1 .1 .1 .0);
       max-radius = true-is _ (both (finite (t .«max_radius»)) (lt nought (t .«max_radius»)) (e .1 .1 .0) .1);
@@ -93,7 +94,7 @@ came-good kernel s t d e (judges F p o u) = record {
         next-within (rho (s .session .state .cost) F (p .value)) (p .norm) (s .session .state .radius) (s .session .settings .«max_radius») (rw same f) (bounds (s .session) u .max-radius) h (rw same k);
   };
 }
-came-good kernel s t d e (renews g H) = record { keeps = refl; tells = tt }
+came-good kernel s t d e (renews g H due) = record { keeps = refl; tells = tt }
 
 call-good : (kernel : Settings → Kernel) (c : Call) (s : Station) → Good (s .session .settings) (perform (respond kernel) c s)
 call-good kernel = perform-elim (respond kernel) (λ (s : Station) (d : Done). Good (s .session .settings) d) (λ v s d g. record { keeps = g .keeps; tells = g .tells }) (λ q s. came-good kernel s s _ _ (alone kernel q s))

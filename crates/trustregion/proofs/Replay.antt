@@ -1,32 +1,45 @@
--- The struck run, replayed from the same start, is answered as it was, and ends alike. Assumes nothing.
-use mathlib.Core.Path.{refl}
-use mathlib.Core.Bool.{Bool, true, false, _&&_, cond}
+-- The struck run, replayed from the same start without some of its refused calls, is answered as it was, and ends alike. Assumes nothing.
+use mathlib.Core.Path.{_≡_, refl, sym, _∙_, ap}
+use mathlib.Core.Bool.{Bool, true, false, not, _&&_, cond}
 use mathlib.Core.List.{List, [], _∷_}
-use Prim.Native.Nat.{ℕ}
-use lib.Dec.{T}
+use Prim.Native.Nat.{ℕ, _+_}
+use lib.Dec.{T, eqb}
 use lib.Ieee.{Float}
-use lib.Ieee.Fits.{and-i, and-l, and-r}
+use lib.Ieee.Fits.{and-l, and-r}
 use Rattle.kernels.specs.Kernel.{Kernel, Proper}
-use Rattle.offer.specs.Run.{perform, entry, run, was-refused, lent-at, lent-same}
-use Rattle.trustregion.specs.Run.{Station, Call, Reply, Entry, respond, opens-trial, took-nan, nan-comes, strike-from}
+use Rattle.offer.specs.Run.{perform, entry, run, was-refused, lent-at, lent-same, Thinned, none}
+use Rattle.trustregion.specs.Run.{Station, Call, Reply, Entry, respond, opens-trial, took-nan, count-after, never-reaches, nan-comes, strike-from}
 use Rattle.trustregion.specs.declared.settings.Settings.{Settings}
-use Rattle.offer.proofs.Checks.{cond-elim}
-use Rattle.offer.proofs.Runs.{Replays, replay-keep, replay-strike}
+use Rattle.offer.proofs.Checks.{false-is}
+use Rattle.offer.proofs.Counts.{level, level-up}
+use Rattle.offer.proofs.Runs.{Replays, replay-keep, replay-strike, thinned-elim}
+use Rattle.trustregion.proofs.Answers.{Near}
 use Rattle.trustregion.proofs.Alike.{Alike, alike-trans, follow, refused-keeps, back, back-alike, nan-closes, proposal-opens}
+use Rattle.trustregion.proofs.Counts.{counts, refused-count, opening-count, nan-count, level-kept}
+use Rattle.trustregion.proofs.Trials.{turns, nan-no-opening, Clear, kept-clear}
+
+-- the count is not at the allowance
+abbrev Apart : Station → Type 0
+Apart s = T (not (eqb (s .session .state .count) (s .session .settings .allowance)))
 
 module _ (kernel : Settings → Kernel) where
   -- ---- NaN trials struck: outside such a trial the two stations are alike; inside it they are once it is answered, and that answer is still to come
-  abbrev pub Standing : (inside : Bool) → Station → Station → List Call → Type 0
-  Standing false s t cs = Alike s t
-  Standing true s t cs = Alike (back s) t × T (nan-comes (run (respond kernel) s cs))
+  abbrev Standing : (inside : Bool) → Station → Station → Type 0
+  Standing false s t = Alike s t × Near s t
+  Standing true s t = Alike (back s) t × Near s t × Apart s
+
+  abbrev Never : Station → List Call → Type 0
+  Never s cs = T (never-reaches (s .session .settings .allowance) (s .session .state .count) (run (respond kernel) s cs))
 
   -- what the induction shows of the calls cs
   abbrev Restrikes : List Call → Type 0
-  Restrikes cs = (inside : Bool) (s t : Station) → T (lent-same (run (respond kernel) s cs)) → Standing inside s t cs → Replays (respond kernel) Alike s cs t (strike-from inside (run (respond kernel) s cs))
+  Restrikes cs =
+      (inside : Bool) (s t : Station) (kept : List Entry) → T (lent-same (run (respond kernel) s cs)) → Never s cs → Clear kernel inside s cs → Standing inside s t
+      → Thinned (strike-from inside (run (respond kernel) s cs)) kept → Replays (respond kernel) Alike s cs t kept
 
   module _ (proper : (t : Settings) (n : ℕ) (radius : Float) (g H : List Float) → Proper n (kernel t n radius g H)) where
     one-more : (c : Call) (cs : List Call) → Restrikes cs → Restrikes (c ∷ cs)
-    one-more c cs ih inside s t w = at inside
+    one-more c cs ih inside s t kept w never = at inside
       where
         reply : Reply
         reply = perform (respond kernel) c s .reply
@@ -40,32 +53,67 @@ module _ (kernel : Settings → Kernel) where
         w′ : T (lent-same (run (respond kernel) next cs))
         w′ = and-r (lent-at (entry (respond kernel) c s)) (lent-same (run (respond kernel) next cs)) w
 
-        within : (b : Bool) → (T b → T (was-refused reply)) → Alike (back s) t → T (cond b later (took-nan reply)) → Replays (respond kernel) Alike s (c ∷ cs) t (strike-from b (run (respond kernel) next cs))
-        within true k a v = replay-strike (respond kernel) Alike c s t cs _ (ih true next t w′ (alike-trans (back next) (back s) t (back-alike next s (refused-keeps kernel c s (k tt))) a, v))
-        within false k a v = replay-strike (respond kernel) Alike c s t cs _ (ih false next t w′ (alike-trans next (back s) t (nan-closes kernel c s v) a))
+        allowance : ℕ
+        allowance = s .session .settings .allowance
 
-        outside : (b : Bool) → (T b → T (opens-trial reply && later)) → Alike s t → Replays (respond kernel) Alike s (c ∷ cs) t (cond b (strike-from true (run (respond kernel) next cs)) (entry (respond kernel) c s ∷ strike-from false (run (respond kernel) next cs)))
-        outside true k a =
-            replay-strike (respond kernel) Alike c s t cs _
-            (ih true next t w′ (alike-trans (back next) s t (proposal-opens kernel proper c s (and-l (opens-trial reply) later (k tt))) a, and-r (opens-trial reply) later (k tt)))
-        outside false k a =
-            let f = follow kernel c s t (and-l (lent-at (entry (respond kernel) c s)) (lent-same (run (respond kernel) next cs)) w) a in
-            replay-keep (respond kernel) Alike c s t cs _ f (ih false next (perform (respond kernel) c t .after) w′ (f .after))
+        count : ℕ
+        count = s .session .state .count
 
-        at : (inside : Bool) → Standing inside s t (c ∷ cs) → Replays (respond kernel) Alike s (c ∷ cs) t (strike-from inside (run (respond kernel) s (c ∷ cs)))
-        at true a = within (was-refused reply) (λ v. v) (a .0) (a .1)
-        at false a = outside (opens-trial reply && later) (λ v. v) a
+        allowed : next .session .settings .allowance ≡ allowance
+        allowed = λ i. counts kernel c s .settings i .allowance
+
+        apart : T (not (eqb (count-after reply count) allowance))
+        apart = and-l (not (eqb (count-after reply count) allowance)) (never-reaches allowance (count-after reply count) (run (respond kernel) next cs)) never
+
+        never′ : Never next cs
+        never′ = rw (allowed, counts kernel c s .count) (and-r (not (eqb (count-after reply count) allowance)) (never-reaches allowance (count-after reply count) (run (respond kernel) next cs)) never)
+
+        apart′ : Apart next
+        apart′ = rw (allowed, counts kernel c s .count) apart
+
+        -- where the reply leaves the count on its level
+        near′ : (u : Station) → level allowance (count-after reply count) ≡ level allowance (u .session .state .count) → Near next u
+        near′ u e = rw (allowed, counts kernel c s .count) e
+
+        stays : count-after reply count ≡ count → Near s t → Near next t
+        stays e near = near′ t (ap (level allowance) e ∙ near)
+
+        within : (b : Bool) → (T b → T (was-refused reply)) → (T (not b) → T (not (was-refused reply))) → T (cond b later (took-nan reply)) → Alike (back s) t → Near s t → Apart s
+            → Thinned (strike-from b (run (respond kernel) next cs)) kept → Replays (respond kernel) Alike s (c ∷ cs) t kept
+        within true k l v a near off thin =
+            replay-strike (respond kernel) Alike c s t cs kept
+            (ih true next t kept w′ never′ v (alike-trans (back next) (back s) t (back-alike next s (refused-keeps kernel c s (k tt))) a, stays (refused-count reply (k tt) count) near, apart′) thin)
+        within false k l v a near off thin =
+            let up : count-after reply count ≡ count + 1 = nan-count reply v count in
+            let same : level allowance (count-after reply count) ≡ level allowance count =
+            ap (level allowance) up ∙ level-up allowance count (counts kernel c s .low v) (false-is _ off) (false-is _ (rw (sym up) apart)) in
+            replay-strike (respond kernel) Alike c s t cs kept
+            (ih false next t kept w′ never′ (λ x. absurd (turns kernel c s .closes (l tt) (nan-no-opening reply v) x)) (alike-trans next (back s) t (nan-closes kernel c s v) a, near′ t (same ∙ near)) thin)
+
+        outside : (b : Bool) → (T b → T (opens-trial reply && later)) → (T (not b) → T (not (opens-trial reply && later))) → Clear kernel false s (c ∷ cs) → Alike s t → Near s t
+            → Thinned (cond b (strike-from true (run (respond kernel) next cs)) (entry (respond kernel) c s ∷ strike-from false (run (respond kernel) next cs))) kept → Replays (respond kernel) Alike s (c ∷ cs) t kept
+        outside true k l v a near thin =
+            let opens : T (opens-trial reply) = and-l (opens-trial reply) later (k tt) in
+            replay-strike (respond kernel) Alike c s t cs kept
+            (ih true next t kept w′ never′ (and-r (opens-trial reply) later (k tt)) (alike-trans (back next) s t (proposal-opens kernel proper c s opens) a, stays (opening-count reply opens count) near, apart′) thin)
+        outside false k l v a near thin =
+            let x = kept-clear kernel c s cs v (l tt) in
+            thinned-elim (Replays (respond kernel) Alike s (c ∷ cs) t) (entry (respond kernel) c s) (strike-from false (run (respond kernel) next cs)) kept thin
+            (λ ds h.
+            let f = follow kernel c s t (and-l (lent-at (entry (respond kernel) c s)) (lent-same (run (respond kernel) next cs)) w) near a in
+            let theirs : perform (respond kernel) c t .after .session .state .count ≡ count-after reply (t .session .state .count) =
+            counts kernel c t .count ∙ ap (λ (r : Reply). count-after r (t .session .state .count)) (sym (f .reply)) in
+            replay-keep (respond kernel) Alike c s t cs ds f
+            (ih false next (perform (respond kernel) c t .after) ds w′ never′ (x .1)
+            (f .after, near′ (perform (respond kernel) c t .after) (level-kept reply (x .0) allowance count (t .session .state .count) near ∙ ap (level allowance) (sym theirs))) h))
+            (λ ds r h. replay-strike (respond kernel) Alike c s t cs ds
+            (ih false next t ds w′ never′ (x .1) (alike-trans next s t (refused-keeps kernel c s r) a, stays (refused-count reply r count) near) h))
+
+        at : (inside : Bool) → Clear kernel inside s (c ∷ cs) → Standing inside s t → Thinned (strike-from inside (run (respond kernel) s (c ∷ cs))) kept → Replays (respond kernel) Alike s (c ∷ cs) t kept
+        at true v a = within (was-refused reply) (λ x. x) (λ x. x) v (a .0) (a .1) (a .2)
+        at false v a = outside (opens-trial reply && later) (λ x. x) (λ x. x) v (a .0) (a .1)
 
     pub strike-replays : (cs : List Call) → Restrikes cs
-    strike-replays [] false s t w a = record { replies = refl; ends = a }
-    strike-replays [] true s t w a = absurd (a .1)
-    strike-replays (c ∷ cs) inside s t w a = one-more c cs (strike-replays cs) inside s t w a
-
--- a struck run is lent the same as the whole
-pub strike-lent : (inside : Bool) (es : List Entry) → T (lent-same es) → T (lent-same (strike-from inside es))
-strike-lent inside [] w = tt
-strike-lent true (e ∷ es) w = strike-lent (was-refused (e .reply)) es (and-r (lent-at e) (lent-same es) w)
-strike-lent false (e ∷ es) w =
-    let v : T (lent-same es) = and-r (lent-at e) (lent-same es) w in
-    cond-elim (λ (x : List Entry). T (lent-same x)) (opens-trial (e .reply) && nan-comes es) {x = strike-from true es} {y = e ∷ strike-from false es} (strike-lent true es v)
-    (and-i (lent-at e) (lent-same (strike-from false es)) (and-l (lent-at e) (lent-same es) w) (strike-lent false es v))
+    strike-replays [] false s t kept w never v a none = record { replies = refl; ends = a .0 }
+    strike-replays [] true s t kept w never v a thin = absurd v
+    strike-replays (c ∷ cs) inside s t kept w never v a thin = one-more c cs (strike-replays cs) inside s t kept w never v a thin

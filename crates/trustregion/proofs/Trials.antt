@@ -7,8 +7,8 @@ use lib.Ieee.{isNan, lt}
 use lib.Ieee.Fits.{and-l, and-r}
 use Rattle.vectors.specs.Refusal.{refused, given}
 use Rattle.kernels.specs.Kernel.{Kernel}
-use Rattle.trustregion.specs.Session.{rho, settled}
-use Rattle.offer.specs.State.{awaits-cost}
+use Rattle.trustregion.specs.Session.{awaiting, rho, settled}
+use Rattle.offer.specs.State.{awaits-cost, awaits-derivatives}
 use Rattle.offer.specs.Run.{Trial, perform, run, was-refused, Thinned, none, keep, drop}
 use Rattle.offer.proofs.Runs.{perform-elim}
 use Rattle.trustregion.specs.Run.{Station, Call, proposed, judged, renewed, Reply, Done, Entry, on-proposal, on-judgement, on-renewal, respond, opens-trial, took-cost, took-nan, nan-comes, strike-from, add-trial, trials, seen}
@@ -20,24 +20,33 @@ use Rattle.trustregion.proofs.Alike.{Alike, same-phase, refused-keeps}
 
 -- ---- how a reply and the phases before and after it go together
 
-record Turns (before : Phase) (r : Reply) (after : Phase) : Type 0 where
+pub record Turns (before : Phase) (r : Reply) (after : Phase) : Type 0 where
   -- a cost is taken only where one is awaited
-  awaited : T (took-cost r) → T (awaits-cost before)
+  pub awaited : T (took-cost r) → T (awaits-cost before)
   -- after an answer that was taken no cost is awaited
-  closes : T (not (was-refused r)) → T (not (opens-trial r)) → T (awaits-cost after) → ⊥
+  pub closes : T (not (was-refused r)) → T (not (opens-trial r)) → T (awaits-cost after) → ⊥
+  -- after a proposal that was made one is
+  pub opens : T (opens-trial r) → T (awaits-cost after)
+  -- what is neither refused nor of a trial is derivatives, and they were awaited
+  pub due : T (not (was-refused r)) → T (not (opens-trial r)) → T (not (took-cost r)) → T (awaits-derivatives before)
 
 came-turns : (kernel : Settings → Kernel) (s t : Station) (d e : Done) → Came kernel s t d e → Turns (s .session .state .phase) (d .reply) (d .after .session .state .phase)
-unfolding on-proposal on-judgement on-renewal settled
-came-turns kernel s t d e (refuses r w v l m) = record { awaited = λ w. absurd w; closes = λ w. absurd w }
-came-turns kernel s t d e (offers n m z u i) = record { awaited = λ w. absurd w; closes = λ w v. absurd v }
-came-turns kernel s t d e (judges F p i u) = record { awaited = λ w. promise-held (s .session .state .phase) p i; closes = λ w v. go (lt (s .session .settings .eta) (rho (s .session .state .cost) F (p .value))) }
+unfolding on-proposal on-judgement on-renewal awaiting settled
+came-turns kernel s t d e (refuses r w v l m) = record { awaited = λ w. absurd w; closes = λ w. absurd w; opens = λ w. absurd w; due = λ w. absurd w }
+came-turns kernel s t d e (offers n m z u i) = record { awaited = λ w. absurd w; closes = λ w v. absurd v; opens = λ w. tt; due = λ w v. absurd v }
+came-turns kernel s t d e (judges F p i u) = record {
+  awaited = λ w. promise-held (s .session .state .phase) p i;
+  closes = λ w v. go (lt (s .session .settings .eta) (rho (s .session .state .cost) F (p .value)));
+  opens = λ w. absurd w;
+  due = λ w v x. absurd x;
+}
   where
     go : (b : Bool) → T (awaits-cost (cond b AwaitingDerivatives Ready)) → ⊥
     go true w = w
     go false w = w
-came-turns kernel s t d e (renews g H) = record { awaited = λ w. absurd w; closes = λ w v u. u }
+came-turns kernel s t d e (renews g H due) = record { awaited = λ w. absurd w; closes = λ w v u. u; opens = λ w. absurd w; due = λ w v x. due }
 
-turns : (kernel : Settings → Kernel) (c : Call) (s : Station) → Turns (s .session .state .phase) (perform (respond kernel) c s .reply) (perform (respond kernel) c s .after .session .state .phase)
+pub turns : (kernel : Settings → Kernel) (c : Call) (s : Station) → Turns (s .session .state .phase) (perform (respond kernel) c s .reply) (perform (respond kernel) c s .after .session .state .phase)
 turns kernel = perform-elim (respond kernel) (λ (s : Station) (d : Done). Turns (s .session .state .phase) (d .reply) (d .after .session .state .phase)) (λ v s d h. h) (λ q s. came-turns kernel s s _ _ (alone kernel q s))
 
 -- ---- what a reply adds to the trials
@@ -76,7 +85,7 @@ opens-no-cost (given (proposed p x k)) w v = absurd v
 opens-no-cost (given (judged t)) w v = absurd w
 opens-no-cost (given renewed) w v = absurd v
 
-nan-no-opening : (r : Reply) → T (took-nan r) → T (not (opens-trial r))
+pub nan-no-opening : (r : Reply) → T (took-nan r) → T (not (opens-trial r))
 nan-no-opening (refused k) w = tt
 nan-no-opening (given (proposed p x k)) w = absurd w
 nan-no-opening (given (judged t)) w = tt
@@ -93,7 +102,7 @@ module _ (kernel : Settings → Kernel) where
     next = perform (respond kernel) c s .after
 
     -- a kept call took no NaN, and what comes after it is clear
-    kept-clear : Clear false s (c ∷ cs) → T (not (opens-trial (perform (respond kernel) c s .reply) && nan-comes (run (respond kernel) next cs))) → T (not (took-nan (perform (respond kernel) c s .reply))) × Clear false next cs
+    pub kept-clear : Clear false s (c ∷ cs) → T (not (opens-trial (perform (respond kernel) c s .reply) && nan-comes (run (respond kernel) next cs))) → T (not (took-nan (perform (respond kernel) c s .reply))) × Clear false next cs
     kept-clear h k = go (perform (respond kernel) c s .reply) (λ w. refused-keeps kernel c s w) (turns kernel c s) h k
       where
         go : (r : Reply) → (T (was-refused r) → Alike next s) → Turns (s .session .state .phase) r (next .session .state .phase)

@@ -1,14 +1,15 @@
 -- A run of a `TrustRegion` session, and the run with its NaN trials struck out. Definitions only. (What a run is, of either kind of session: `offer`'s specs/Run.antt.)
-use mathlib.Core.Bool.{Bool, true, false, _&&_, cond}
+use mathlib.Core.Bool.{Bool, true, false, not, _&&_, cond}
 use mathlib.Core.List.{List, [], _∷_}
 use Prim.Native.Nat.{ℕ}
+use lib.Dec.{eqb}
 use lib.Ieee.{Float, isNan}
 use Rattle.vectors.specs.Refusal.{Answer, refused, given, left-in}
 use Rattle.kernels.specs.Kernel.{Kernel}
 use Rattle.offer.specs.Run as Run
 use Rattle.offer.specs.Run.{Vectors, Trial, trial-at, answered, proposing, was-refused}
 use Rattle.trustregion.specs.Session.{Proposal, proposal, Judgement, judgement, Renewal, renewal}
-use Rattle.offer.specs.State.{verdict-of}
+use Rattle.offer.specs.State.{verdict-of, counted}
 use Rattle.trustregion.specs.declared.settings.Settings.{Settings}
 use Rattle.trustregion.specs.declared.session.Session.{Session}
 use Rattle.offer.specs.declared.state.Outcome.{Outcome}
@@ -112,6 +113,20 @@ took-cost = reply-is false (λ t. true)
 
 abbrev pub took-nan : Reply → Bool
 took-nan = reply-is false (λ t. isNan (t .cost))
+
+-- ---- the count of NaN answers in a row, by what was answered
+
+-- after a reply, where so many were before it
+abbrev pub count-after : Reply → ℕ → ℕ
+count-after (refused r) k = k
+count-after (given (proposed step trial passes)) k = k
+count-after (given (judged t)) k = counted (t .cost) k
+count-after (given renewed) k = 0
+
+-- "runs in which the longer run never reaches the setting": no reply leaves the count there
+abbrev pub never-reaches : (allowance count : ℕ) → List Entry → Bool
+never-reaches allowance k [] = true
+never-reaches allowance k (e ∷ es) = not (eqb (count-after (e .reply) k) allowance) && never-reaches allowance (count-after (e .reply) k) es
 
 -- ---- striking
 

@@ -3,6 +3,7 @@
 use mathlib.Core.Bool.{Bool, not, _&&_, cond}
 use mathlib.Core.List.{List, [], _∷_}
 use Prim.Native.Nat.{ℕ, _*_}
+use lib.Dec.{leb}
 use lib.Ieee.{Float, lt, le}
 use Rattle.float.specs.Numbers.{_⊕_, _⊖_, _⊗_, finite, magnitude, smaller}
 use Rattle.float.specs.Constants.{two, half, quarter, three-quarters, ten-epsilons}
@@ -13,16 +14,17 @@ use Rattle.kernels.specs.Ratio.{reduction-ratio}
 use Rattle.vectors.specs.declared.refusal.Refusal.the-variants.{Size, Setting, Turn, Entry, Range}
 use Rattle.trustregion.specs.Settings.{in-range}
 use Rattle.offer.specs.Offer.{cost-taken, start-checks, proposal-checks, Offer, offer, stepping}
-use Rattle.offer.specs.State.{begin, moved, in-phase, steady, awaits-derivatives, Promise, promised}
+use Rattle.offer.specs.State.{begin, moved, in-phase, counted, steady, awaits-derivatives, Promise, promised}
 use Rattle.trustregion.specs.declared.settings.Settings.{Settings}
 use Rattle.trustregion.specs.declared.session.Session.{Session}
 use Rattle.offer.specs.declared.state.State.{State}
 use Rattle.offer.specs.declared.state.Phase.the-variants.{Ready, AwaitingCost, AwaitingDerivatives}
 
--- not "a setting out of range or not finite, or a session with negative or not finite radius, or cost not finite"; "a session checks all settings of its kind, whatever its kernel"
+-- not "a setting out of range or not finite, or a session with negative or not finite radius, or cost not finite"; "a session checks all settings of its kind, whatever its kernel";
+-- nor "a count above" the allowance
 unfoldable pub sound : Session → Bool
 unfolding in-range finite
-sound s = all-hold (in-range (s .settings) ∷ steady (s .state) ∷ [])
+sound s = all-hold (in-range (s .settings) ∷ steady (s .state) ∷ leb (s .state .count) (s .settings .allowance) ∷ [])
 
 -- the session in another state
 abbrev pub turned : Session → State → Session
@@ -53,12 +55,12 @@ awaiting s n gradient hessian o = record {
   offer = o;
 }
 
--- refusals 1 to 4, and then those of `stepping`, 5 to 8
+-- refusals 1 to 4, and then those of `stepping`, 5, 9 and 6 to 8
 unfoldable pub proposal : (Settings → Kernel) → Session → ℕ → (point gradient hessian step trial scratch : List Float) → Answer Proposal
 unfolding size sound all-finite offer awaiting
 proposal kernel s n point gradient hessian step trial scratch =
     unless (proposal-checks (sound s) (s .state) n point gradient hessian step trial scratch)
-    (then (λ (o : Offer). given (awaiting s n gradient hessian o)) (stepping (kernel (s .settings)) n (s .state .radius) point gradient hessian))
+    (then (λ (o : Offer). given (awaiting s n gradient hessian o)) (stepping (kernel (s .settings)) (s .settings .allowance) (s .state) n point gradient hessian))
 
 -- ---- the answer with a cost F
 
@@ -85,7 +87,7 @@ unfoldable pub settled : Session → (F ratio radius : Float) → (point trial :
 settled s F ratio radius point trial =
     let accepts = lt (s .settings .eta) ratio in
     record {
-      session = turned s (moved (s .state) radius (cond accepts F (s .state .cost)) (cond accepts AwaitingDerivatives Ready));
+      session = turned s (moved (s .state) radius (cond accepts F (s .state .cost)) (cond accepts AwaitingDerivatives Ready) (counted F (s .state .count)));
       point = cond accepts trial point;
       ratio = ratio;
       accepted = accepts;
@@ -141,8 +143,9 @@ renewal-checks s n new-gradient new-hessian gradient hessian =
     ∷ (Entry if not (all-finite new-gradient && all-finite new-hessian))
     ∷ []
 
+-- it is an answer other than NaN: the count is 0 again
 abbrev pub renewed-by : Session → (new-gradient new-hessian : List Float) → Renewal
-renewed-by s new-gradient new-hessian = record { session = turned s (in-phase Ready (s .state)); gradient = new-gradient; hessian = new-hessian }
+renewed-by s new-gradient new-hessian = record { session = turned s (moved (s .state) (s .state .radius) (s .state .cost) Ready 0); gradient = new-gradient; hessian = new-hessian }
 
 unfoldable pub renewal : Session → ℕ → (new-gradient new-hessian gradient hessian : List Float) → Answer Renewal
 unfolding size sound all-finite

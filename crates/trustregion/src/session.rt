@@ -59,5 +59,11 @@ pub fn sound(s: Session) -> bool
 {
     let settings = s.settings;
     let state = s.state;
-    refusal::all_hold(&[settings::in_range(settings), state::steady(state)])
+    refusal::all_hold(
+        &[
+            settings::in_range(settings),
+            state::steady(state),
+            state.count <= settings.allowance,
+        ],
+    )
 }

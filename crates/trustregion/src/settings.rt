@@ -2,15 +2,17 @@
 use kernels::choice;
 use kernels::choice::Choice;
 use kernels::kernel;
+use offer::state;
 use vectors::refusal;
 ghost use mathlib.Core.Path.{_≡_};
-ghost use Rattle.trustregion.specs.Settings.{by-default, settings-of, in-range};
+ghost use Rattle.trustregion.specs.Settings.{by-default, settings-of, allowing, in-range};
 
 pub struct Settings {
     pub choice: Choice,
     pub radius: f64,
     pub max_radius: f64,
     pub eta: f64,
+    pub allowance: u64,
 }
 
 impl Settings {
@@ -19,6 +21,8 @@ impl Settings {
     pub const MAX_RADIUS: f64 = 100.0;
 
     pub const ETA: f64 = 0.125;
+
+    pub const ALLOWANCE: u64 = 1000;
 
     // The defaults for all but the kernel and Steihaug's iteration limit, which have none.
     pub fn new(kernel: u64, limit: u64) -> Self
@@ -37,7 +41,16 @@ impl Settings {
             radius: radius,
             max_radius: max_radius,
             eta: eta,
+            allowance: Self::ALLOWANCE,
         }
+    }
+
+    // At most so many hidden trials in a row.
+    pub fn with_allowance(mut self, allowance: u64) -> Self
+        ensures { λ r. ⌜ r ≡ allowing allowance self ⌝ }
+    {
+        self.allowance = allowance;
+        self
     }
 }
 
@@ -54,6 +67,7 @@ pub fn in_range(t: Settings) -> bool
             float::finite(t.eta),
             0.0 <= t.eta,
             t.eta < 0.25,
+            state::allowable(t.allowance),
         ],
     )
 }

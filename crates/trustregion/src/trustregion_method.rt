@@ -19,11 +19,13 @@ use vectors::refusal::Verdict;
 use vectors::vector;
 ghost use mathlib.Core.Path.{_≡_};
 ghost use mathlib.Core.Bool.{_&&_};
+ghost use Prim.Native.Nat.{_≤_};
 ghost use lib.ListN.{length};
 ghost use Rattle.float.specs.Numbers.{_⊕_, _⊗_};
 ghost use Rattle.float.specs.Constants.{half};
 ghost use Rattle.vectors.specs.Vector.{all-finite};
 ghost use Rattle.offer.specs.Offer.{cost-taken};
+ghost use Rattle.offer.specs.State as state;
 ghost use Rattle.trustregion.specs.Settings.{chosen};
 ghost use Rattle.trustregion.specs.Session as Definition;
 ghost use Rattle.trustregion.specs.Session.{proposal, judgement, renewal-sized, renewal, next-radius};
@@ -90,6 +92,7 @@ pub fn proposed(
     let state = s.state;
     let asked = Asked {
         choice: choice,
+        allowance: s.settings.allowance,
         sound: session::sound(s),
         state: state,
     };
@@ -124,9 +127,20 @@ fn next_radius(ratio: f64, norm: f64, radius: f64, max_radius: f64) -> f64
     radius
 }
 
+// The count after an answer that is taken: a hidden trial is one more, any other ends the row.
+fn counted(cost: f64, count: u64) -> u64
+    requires { ⌜ count ≤ 1000 ⌝ }
+    ensures { λ r. ⌜ r ≡ state.counted cost count ⌝ }
+{
+    if float::is_nan(cost) {
+        return count + 1;
+    }
+    0
+}
+
 // The verdict on a trial that was promised on a model value and a step norm.
 fn judge(s: Session, model: f64, norm: f64, answer: f64, point: &mut [f64], trial: &[f64]) -> After
-    requires { ⌜ length (now point) ≡ length (now trial) ⌝ }
+    requires { ⌜ (length (now point) ≡ length (now trial)) × (s .state .count ≤ 1000) ⌝ }
     ensures { λ r. ⌜ Judges (Definition.judge s answer (now (point .entry)) (now (trial .entry)) (record { value = model; norm = norm })) s (now (point .entry)) r (now (point .exit)) ⌝ }
 {
     if !answered(answer, trial) {
@@ -137,17 +151,18 @@ fn judge(s: Session, model: f64, norm: f64, answer: f64, point: &mut [f64], tria
     if !float::finite(next) {
         return session::refusing(s, Refusal::Range);
     }
+    let count = counted(answer, s.state.count);
     if s.settings.eta < ratio {
         lent::copy(trial, point);
         return session::answering(
             s,
-            state::moved(s.state, next, answer, Phase::AwaitingDerivatives),
+            state::moved(s.state, next, answer, Phase::AwaitingDerivatives, count),
             Outcome::Accepted(ratio),
         );
     }
     session::answering(
         s,
-        state::moved(s.state, next, s.state.cost, Phase::Ready),
+        state::moved(s.state, next, s.state.cost, Phase::Ready, count),
         Outcome::Rejected(ratio),
     )
 }
@@ -217,7 +232,8 @@ pub fn renewed(
         Verdict::Passed => {
             lent::copy(new_gradient, gradient);
             lent::copy(new_hessian, hessian);
-            session::answering(s, state::in_phase(s.state, Phase::Ready), Outcome::Taken)
+            let next = state::moved(state, state.radius, state.cost, Phase::Ready, 0);
+            session::answering(s, next, Outcome::Taken)
         }
     }
 }

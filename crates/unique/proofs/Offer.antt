@@ -19,6 +19,7 @@ table =
     ∷ equation state.begin.ended (λ M. state.begin.spec) (λ w κs a g r. refl) (λ κs a s s₂. refl)
     ∷ equation state.moved.ended (λ M. state.moved.spec) (λ w κs a g r. refl) (λ κs a s s₂. refl)
     ∷ equation state.«in_phase».ended (λ M. state.«in_phase».spec) (λ w κs a g r. refl) (λ κs a s s₂. refl)
+    ∷ equation state.allowable.ended (λ M. state.allowable.spec) (λ w κs a g r. refl) (λ κs a s s₂. refl)
     ∷ equation state.steady.ended (λ M. state.steady.spec) (λ w κs a g r. refl) (λ κs a s s₂. refl)
     ∷ equation state.«is_ready».ended (λ M. state.«is_ready».spec) (λ w κs a g r. refl) (λ κs a s s₂. refl)
     ∷ equation state.«awaits_derivatives».ended (λ M. state.«awaits_derivatives».spec) (λ w κs a g r. refl) (λ κs a s s₂. refl)

@@ -1,6 +1,6 @@
 -- What all calls share: refusals, sizes, and what a call leaves. Definitions only.
 use mathlib.Core.Path.{_≡_}
-use mathlib.Core.Bool.{Bool, true, cond, _&&_}
+use mathlib.Core.Bool.{Bool, true, cond, _&&_, _||_}
 use mathlib.Core.List.{List, [], _∷_}
 use Prim.Native.Nat.{ℕ, _+_, _*_, _≤_}
 use lib.Dec.{eqb, leb}
@@ -8,13 +8,13 @@ use lib.ListN.{length}
 use lib.Ieee.{Float}
 use Rattle.vectors.specs.Vector.{zeros}
 use Rattle.vectors.specs.declared.refusal.Refusal.{Refusal}
-use Rattle.vectors.specs.declared.refusal.Refusal.the-variants.{Size, Setting, Turn, Entry, Radius, Pivot, Root, Range}
+use Rattle.vectors.specs.declared.refusal.Refusal.the-variants.{Size, Setting, Turn, Entry, Radius, Pivot, Root, Range, Hidden}
 use Rattle.vectors.specs.declared.refusal.Verdict.{Verdict}
 use Rattle.vectors.specs.declared.refusal.Verdict.the-variants.{Passed, Failed}
 use Rattle.vectors.specs.declared.refusal.Outcome.{Outcome}
 use Rattle.vectors.specs.declared.refusal.Outcome.the-variants.{Written, Refused}
 
--- the numbers of document 01's table
+-- the numbers of document 01's table; 9 is request Five's
 abbrev pub number : Refusal → ℕ
 number Size = 1
 number Setting = 2
@@ -24,6 +24,7 @@ number Radius = 5
 number Pivot = 6
 number Root = 7
 number Range = 8
+number Hidden = 9
 
 -- a call's answer: why it is refused, or what it gives
 pub data Answer (A : Type 0) : Type 0 where
@@ -90,9 +91,9 @@ abbrev pub left-in : {A B : Type 0} → (A → B) → Answer A → B → B
 left-in new (refused r) old = old
 left-in new (given a) old = new a
 
--- "Scratch is untouched by 1 to 5"
+-- "Scratch is untouched by 1 to 5"; "9, .. scratch untouched"
 abbrev pub untouched-by : Refusal → Bool
-untouched-by r = leb (number r) 5
+untouched-by r = leb (number r) 5 || eqb (number r) 9
 
 -- in the scratch; "after any other call, refused or not, it holds +0 throughout"
 abbrev pub scratch-after : {A : Type 0} → Answer A → List Float → List Float

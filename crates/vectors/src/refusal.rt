@@ -6,7 +6,7 @@ ghost use Prim.Native.Nat.{_*_};
 ghost use lib.Dec.{eqb};
 ghost use Rattle.vectors.specs.Refusal as Table;
 
-// Document 01's table, in its order.
+// Document 01's table, in its order, and behind it the refusals of later requests.
 pub enum Refusal {
     Size,
     Setting,
@@ -16,6 +16,7 @@ pub enum Refusal {
     Pivot,
     Root,
     Range,
+    Hidden,
 }
 
 // What a list of checks comes to.
@@ -43,6 +44,7 @@ pub fn number(r: Refusal) -> u64
         Refusal::Pivot => 6,
         Refusal::Root => 7,
         Refusal::Range => 8,
+        Refusal::Hidden => 9,
     }
 }
 

@@ -10,4 +10,4 @@ unfolding sound
 sound-spec =
     tie.close
     (tie.spec (λ c κs. search needs) (λ c κs. search needs) (λ c. search needs) (λ c κs. search needs)
-    (λ c. let kept = c .before .before in c .all-hold .ensures ∙ rw (kept .before .in-range .ensures, kept .steady .ensures)))
+    (λ c. let kept = c .before .before .before .before in c .all-hold .ensures ∙ rw (kept .before .in-range .ensures, kept .steady .ensures)))

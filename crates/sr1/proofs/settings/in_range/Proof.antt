@@ -10,11 +10,12 @@ unfolding in-range
 in-range-spec =
     tie.close
     (tie.spec
-    (λ c κs. search needs) (λ c κs. search needs) (λ c κs. search needs) (λ c κs. search needs) (λ c κs. search needs) (λ c κs. search needs) (λ c. search needs) (λ c κs. search needs)
+    (λ c κs. search needs) (λ c κs. search needs) (λ c κs. search needs) (λ c κs. search needs) (λ c κs. search needs) (λ c κs. search needs) (λ c κs. search needs) (λ c. search needs) (λ c κs. search needs)
     (λ c.
-    let tolerance = c .before .before .before in
+    let allowed = c .before .before in
+    let tolerance = allowed .before .before in
     let factor = tolerance .before .before in
     let eta = factor .before .before in
     let radius = eta .before in
     c .all-hold .ensures
-    ∙ rw (radius .before .before .in-range .ensures, radius .positive .ensures, radius .before .magnitude .ensures, eta .positive2 .ensures, factor .positive3 .ensures, tolerance .finite .ensures)))
+    ∙ rw (radius .before .before .in-range .ensures, radius .positive .ensures, radius .before .magnitude .ensures, eta .positive2 .ensures, factor .positive3 .ensures, tolerance .finite .ensures, allowed .allowable .ensures)))

@@ -10,8 +10,9 @@ unfolding in-range
 in-range-spec =
     tie.close
     (tie.spec
-    (λ c κs. search needs) (λ c κs. search needs) (λ c κs. search needs) (λ c κs. search needs) (λ c. search needs) (λ c κs. search needs)
+    (λ c κs. search needs) (λ c κs. search needs) (λ c κs. search needs) (λ c κs. search needs) (λ c κs. search needs) (λ c. search needs) (λ c κs. search needs)
     (λ c.
-    let eta = c .before .before .before .before in
+    let allowed = c .before .before in
+    let eta = allowed .before .before .before in
     let max = eta .before in
-    c .all-hold .ensures ∙ rw (max .before .before .in-range .ensures, max .before .positive .ensures, max .positive2 .ensures, eta .finite .ensures)))
+    c .all-hold .ensures ∙ rw (max .before .before .in-range .ensures, max .before .positive .ensures, max .positive2 .ensures, eta .finite .ensures, allowed .allowable .ensures)))

@@ -5,7 +5,7 @@ use borrow.Author.Needs.{needs}
 use Rattle.vectors.specs.Refusal.{judged}
 use Rattle.offer.specs.State.{promised}
 use Rattle.trustregion.specs.Session.{judgement-checks}
-use Rattle.trustregion.proofs.Ends.{judges-not, judged-lengths, judges-out-of-turn, judges-in-turn}
+use Rattle.trustregion.proofs.Ends.{judges-not, judge-ready, judges-out-of-turn, judges-in-turn}
 use Rattle.trustregion.proofs.trustregion_method.judged.Statement.{statement}
 use Rattle.trustregion.proofs.trustregion_method.judged.Tie as tie
 
@@ -17,7 +17,7 @@ judge-requires : tie.Need-judge-requires
 judge-requires c κs =
     let told = c .before .before .before .before in
     let a = told .before .before .before .before .before .before .before .before .args in
-    judged-lengths (a .s) (a .n) (a .cost) (now (a .point)) (now (a .trial)) _ (judges (told .before .before)) (told .enum-told .given .1)
+    judge-ready (a .s) (a .n) (a .cost) (now (a .point)) (now (a .trial)) _ (judges (told .before .before)) (told .enum-told .given .1)
 
 returns : tie.Need-returns
 returns c = judges-not _ _ _ _ _ _ (judges (c .before .before .before .before)) _ (c .before .before .checks .given .1) _ (c .refusing .ensures)

@@ -24,7 +24,7 @@ returns-2 c =
     let hessian = c .before .before .before .before in
     let gradient = hessian .before .before .before .before in
     let told = gradient .before .before in
-    renews _ _ _ _ _ _ _ (judges (told .before .before)) (told .enum-told .given .1) _ _ (gradient .copy .ensures) (hessian .copy2 .ensures) _ (c .before .in-phase .ensures) _ (c .answering .ensures)
+    renews _ _ _ _ _ _ _ (judges (told .before .before)) (told .enum-told .given .1) _ _ (gradient .copy .ensures) (hessian .copy2 .ensures) _ (c .before .moved .ensures) _ (c .answering .ensures)
 
 pub renewed-spec : {M : Type 1} → statement M
 renewed-spec =
