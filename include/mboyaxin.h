@@ -4,7 +4,7 @@
    exactly. No two lists of a call may overlap if one of them is written.
 
    A function that may refuse returns 0, or the number of the refusal (README.md has their table), and writes what it gives where it is told.
-   A refused call has changed nothing; a refusal from 6 on has cleared the scratch. Every NaN that is handed out has the bits
+   A refused call has changed nothing, but that a refusal by 6, 7 or 8 has cleared the scratch. Every NaN that is handed out has the bits
    7ff8000000000000: no proof can say so, oracle/nan-bits reads them. */
 
 #ifndef MBOYAXIN_H
@@ -57,10 +57,26 @@ mboyaxin_kernel mboyaxin_cauchy_point, mboyaxin_dogleg, mboyaxin_steihaug;
 /* ---- crates/foreign_sessions
 
    A session is three lists that its owner keeps: words and numbers, the same for both kinds, which each call changes in place, and its kind's
-   own settings, which are only read. Before a start kernel, limit, epsilon, cost and settings stand in their places; nothing else is looked
-   at. What a call does not tell is 0. */
+   own settings, which are only read. Before a start layout, kernel, limit, allowance, epsilon, cost and settings stand in their places; nothing
+   else is looked at. What a call does not tell is 0.
 
-enum { MBOYAXIN_KERNEL, MBOYAXIN_LIMIT, MBOYAXIN_PHASE, MBOYAXIN_SAID, MBOYAXIN_PASSES, MBOYAXIN_WORDS };
+   The words have grown. LAYOUT holds MBOYAXIN_WORDS, so that lists of another header are told apart: the first ones had five words, the kernel
+   first, and are refused by 2 at every call, with nothing written. A header with further words will have another MBOYAXIN_WORDS.
+
+   ALLOWANCE, 1 to 1000, is how many trials in a row may be answered with NaN, COUNT how many were: when they are equal a proposal is refused
+   by 9. Once the markers are seen again, put 0 into COUNT. */
+
+enum {
+    MBOYAXIN_LAYOUT,
+    MBOYAXIN_KERNEL,
+    MBOYAXIN_LIMIT,
+    MBOYAXIN_ALLOWANCE,
+    MBOYAXIN_PHASE,
+    MBOYAXIN_COUNT,
+    MBOYAXIN_SAID,
+    MBOYAXIN_PASSES,
+    MBOYAXIN_WORDS
+};
 
 /* PROMISE and NORM are what a cost is awaited on: TrustRegion's model value or SR1TrustRegion's predicted fall, and the step norm. RATIO is
    that of a verdict. */

@@ -4,7 +4,7 @@
 #include "mboyaxin.h"
 #include "see.h"
 
-enum { SAYINGS = MBOYAXIN_DONE + 1 };
+enum { SAYINGS = MBOYAXIN_DONE + 1, REFUSALS = 9, ALLOWANCE = 2 };
 static const char *const sayings[SAYINGS] = { "started", "proposed", "accepted", "rejected", "taken", "done" };
 
 /* A session with all that its calls are lent, n up to 2. Every member is a word: two stations are compared word by word. */
@@ -19,16 +19,16 @@ static struct station now, was;
 struct kind { const char *name; };
 static const struct kind trustregion = { "TrustRegion" }, sr1 = { "SR1TrustRegion" };
 
-static word calls, said[2][SAYINGS], refused[2][9], promises[2], ratios[2];
+static word calls, said[2][SAYINGS], refused[2][REFUSALS + 1], promises[2], ratios[2];
 
 /* ---- what a call left */
 
 static word *cells(struct station *s) { return (word *)s; }
 
-/* A refusal leaves every bit; from 6 on the scratch that was lent is +0. */
+/* A refusal leaves every bit; by 6, 7 and 8 the scratch that was lent is +0. */
 static void see_refused(const struct kind *k, word refusal, word room) {
     refused[k == &sr1][refusal]++;
-    if (refusal > 5)
+    if (refusal > 5 && refusal < 9)
         for (word i = 0; i < room; i++) was.scratch[i].w = 0;
     for (word i = 0; i < CELLS; i++)
         if (cells(&now)[i] != cells(&was)[i]) see(k->name, refusal, cells(&now)[i], cells(&was)[i]);
@@ -88,7 +88,10 @@ static word renewed(word n) {
 /* Good settings, and NaN in every list: what a call does not write must keep these bits. */
 static void station(const struct kind *k, word kernel, word phase) {
     static const double settings[2][MBOYAXIN_SR1_SETTINGS] = { { 1.0, 100.0, 0.125, 0.0 }, { 1.0, 0.5e-3, 1e-8, 0.0 } };
-    now = (struct station){ .words = { kernel, 5, phase, 0, 0 }, .numbers[MBOYAXIN_EPSILON].x = 1e-9 };
+    now = (struct station){
+        .words = { [MBOYAXIN_LAYOUT] = MBOYAXIN_WORDS, [MBOYAXIN_KERNEL] = kernel, [MBOYAXIN_LIMIT] = 5, [MBOYAXIN_ALLOWANCE] = ALLOWANCE, [MBOYAXIN_PHASE] = phase },
+        .numbers[MBOYAXIN_EPSILON].x = 1e-9,
+    };
     for (int i = 0; i < MBOYAXIN_SR1_SETTINGS; i++) now.settings[i].x = settings[k == &sr1][i];
     for (word i = MBOYAXIN_WORDS + MBOYAXIN_NUMBERS + MBOYAXIN_SR1_SETTINGS; i < CELLS; i++) cells(&now)[i] = sources[i % 4] + i;
 }
@@ -219,6 +222,29 @@ static void see_out_of_turn(const struct kind *k) {
                 }
 }
 
+/* Every call with the count below, at and above the allowance, and with words of another layout; NaN in every list. A proposal at the
+   allowance is refused by 9 and leaves the scratch its bits, also where the kernel would have refused. */
+static void see_hidden(const struct kind *k) {
+    static const word layouts[] = { MBOYAXIN_WORDS, 0, 1, 2, 3, 5, 1UL << 32 | MBOYAXIN_WORDS }, counts[] = { 0, 1, ALLOWANCE, ALLOWANCE + 1, ~0UL };
+    for (word kernel = 1; kernel <= 3; kernel++)
+        for (word layout = 0; layout < sizeof layouts / sizeof(word); layout++)
+            for (word count = 0; count < sizeof counts / sizeof(word); count++)
+                for (word phase = 0; phase < 3; phase++)
+                    for (int call = 0; call < 3; call++)
+                        for (int i = 0; i < SOURCES; i++) {
+                            station(k, kernel, phase);
+                            now.words[MBOYAXIN_LAYOUT] = layouts[layout];
+                            now.words[MBOYAXIN_COUNT] = counts[count];
+                            now.numbers[MBOYAXIN_RADIUS].x = now.numbers[MBOYAXIN_COST].x = 1.0;
+                            now.numbers[MBOYAXIN_PROMISE].x = now.numbers[MBOYAXIN_NORM].x = phase == MBOYAXIN_AWAITING_COST;
+                            now.point[0].x = now.gradient[0].x = now.step[0].x = now.trial[0].x = now.new_gradient[0].x = now.new_hessian[0].x = 1.0;
+                            now.hessian[0].w = sources[i];
+                            if (call == 0) proposed(k, 1);
+                            else if (call == 1) answered(k, 1, number(sources[i]));
+                            else if (k == &trustregion) renewed(1);
+                        }
+}
+
 void see_sessions(void) {
     const struct kind *const kinds[2] = { &trustregion, &sr1 };
     for (int i = 0; i < 2; i++) {
@@ -226,6 +252,7 @@ void see_sessions(void) {
         see_phases(kinds[i]);
         see_starts(kinds[i]);
         see_out_of_turn(kinds[i]);
+        see_hidden(kinds[i]);
     }
     see_updates();
     see_renewals();
@@ -233,6 +260,6 @@ void see_sessions(void) {
     for (int i = 0; i < 2; i++) {
         printf("%s: %lu NaN %s, %lu NaN ratios; ", kinds[i]->name, promises[i], i ? "predicted falls" : "model values", ratios[i]);
         for (int j = 0; j < SAYINGS; j++) printf("%s %lu, ", sayings[j], said[i][j]);
-        for (int j = 1; j < 9; j++) printf(j < 8 ? "refused %d %lu, " : "refused %d %lu\n", j, refused[i][j]);
+        for (int j = 1; j <= REFUSALS; j++) printf(j < REFUSALS ? "refused %d %lu, " : "refused %d %lu\n", j, refused[i][j]);
     }
 }

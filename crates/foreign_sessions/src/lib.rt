@@ -1,7 +1,8 @@
 // The sessions as C and Rust may drive them: a session is three lists that its owner keeps. Words and numbers are the same for both kinds,
 // and each call changes them in place; the third list, the kind's own settings, is only read.
-// Words: kernel, limit; the phase (0 ready, 1 awaiting a cost, 2 awaiting derivatives); what the last call said (0 started, 1 proposed,
-// 2 accepted, 3 rejected, 4 taken, 5 done); the passes of a proposal.
+// Words: 8, which is how many there are; kernel, limit, allowance; the phase (0 ready, 1 awaiting a cost, 2 awaiting derivatives), the count
+// of hidden trials in a row; what the last call said (0 started, 1 proposed, 2 accepted, 3 rejected, 4 taken, 5 done); the passes of a
+// proposal. Lists of another layout have another first word: the first ones, of five words, had the kernel there.
 // Numbers: epsilon; radius and cost; while a cost is awaited the promise (a model value, or SR1's predicted fall) and the step norm; the
 // ratio of a verdict. What a call does not tell is 0.
 // A refusal is its number, and leaves every list as it was; 0 says that there is none. Nothing here passes through one_nan: what is read
@@ -14,6 +15,7 @@ use offer::state;
 use offer::state::Outcome;
 use offer::state::Phase;
 use offer::state::State;
+use vectors::refusal;
 ghost use mathlib.Core.Path.{_≡_};
 ghost use mathlib.Core.Bool.{cond};
 ghost use Rattle.foreign_sessions.specs.Lists as Lists;
@@ -24,18 +26,19 @@ pub struct Turn(pub u64, pub f64, pub f64);
 
 // ---- from lists
 
-// A number that is no phase's makes no session: the kernel reads as 0, which refusal 2 meets at its place.
-fn kernel_of(kernel: u64, phase_known: bool) -> u64
-    ensures { λ r. ⌜ r ≡ cond «phase_known» kernel 0 ⌝ }
+// Words of another layout, or a number that is no phase's, make no session: the kernel reads as 0, which refusal 2 meets at its place.
+fn kernel_of(kernel: u64, known: bool) -> u64
+    ensures { λ r. ⌜ r ≡ cond known kernel 0 ⌝ }
 {
-    if phase_known { kernel } else { 0 }
+    if known { kernel } else { 0 }
 }
 
-pub(crate) fn choice_in(phase_known: bool, words: &[u64; 5], numbers: &[f64; 6]) -> Choice
+pub(crate) fn choice_in(phase_known: bool, words: &[u64; 8], numbers: &[f64; 6]) -> Choice
     ensures { λ r. ⌜ r ≡ choice-in «phase_known» (now (words .entry)) (now (numbers .entry)) ⌝ }
 {
-    let kernel = kernel_of(words[0], phase_known);
-    Choice::of(kernel, numbers[0], words[1])
+    let known = refusal::both(words[0] == 8, phase_known);
+    let kernel = kernel_of(words[1], known);
+    Choice::of(kernel, numbers[0], words[2])
 }
 
 fn phase_of(turn: Turn) -> Phase
@@ -50,11 +53,12 @@ fn phase_of(turn: Turn) -> Phase
     Phase::AwaitingDerivatives
 }
 
-pub(crate) fn state_in(phase: u64, numbers: &[f64; 6]) -> State
-    ensures { λ r. ⌜ r ≡ state-in phase (now (numbers .entry)) ⌝ }
+pub(crate) fn state_in(phase: u64, count: u64, numbers: &[f64; 6]) -> State
+    ensures { λ r. ⌜ r ≡ state-in phase count (now (numbers .entry)) ⌝ }
 {
     let phase = phase_of(Turn(phase, numbers[3], numbers[4]));
-    state::in_phase(state::begin(numbers[1], numbers[2]), phase)
+    let begun = state::begin(numbers[1], numbers[2]);
+    state::moved(begun, begun.radius, begun.cost, phase, count)
 }
 
 // ---- into lists
@@ -69,20 +73,29 @@ fn turn_of(phase: Phase) -> Turn
     }
 }
 
-// Kernel, limit and epsilon stay: no call changes a setting. Where a call is taken epsilon is finite, so no NaN is copied.
+// Layout, kernel, limit, allowance and epsilon stay: no call changes a setting. Where a call is taken epsilon is finite, so no NaN is copied.
 pub(crate) fn write(
     state: State,
     said: u64,
     passes: u64,
     ratio: f64,
-    words: &mut [u64; 5],
+    words: &mut [u64; 8],
     numbers: &mut [f64; 6],
 ) -> u64
     ensures { λ r. ⌜ told r (now (words .exit)) (now (numbers .exit)) ≡ written (now (words .entry)) (now (numbers .entry)) state said passes ratio ⌝ }
 {
     let phase = state.phase;
     let turn = turn_of(phase);
-    *words = [words[0], words[1], turn.0, said, passes];
+    *words = [
+        words[0],
+        words[1],
+        words[2],
+        words[3],
+        turn.0,
+        state.count,
+        said,
+        passes,
+    ];
     *numbers = [numbers[0], state.radius, state.cost, turn.1, turn.2, ratio];
     0
 }
@@ -91,13 +104,13 @@ pub(crate) fn write(
 pub(crate) fn keep(
     state: State,
     outcome: Outcome,
-    words: &mut [u64; 5],
+    words: &mut [u64; 8],
     numbers: &mut [f64; 6],
 ) -> u64
     ensures { λ r. ⌜ told r (now (words .exit)) (now (numbers .exit)) ≡ kept (now (words .entry)) (now (numbers .entry)) state outcome ⌝ }
 {
     match outcome {
-        Outcome::Refused(r) => vectors::refusal::number(r),
+        Outcome::Refused(r) => refusal::number(r),
         Outcome::Proposed(passes) => write(state, 1, passes, 0.0, words, numbers),
         Outcome::Accepted(ratio) => write(state, 2, 0, ratio, words, numbers),
         Outcome::Rejected(ratio) => write(state, 3, 0, ratio, words, numbers),

@@ -10,13 +10,14 @@ ghost use Rattle.sr1.specs.Calls.{Proposes, Judges};
 ghost use Rattle.foreign_sessions.specs.Lists.{told};
 ghost use Rattle.foreign_sessions.specs.Sr1.{session-in, starts, Driven};
 
-fn session_in(phase: u64, words: &[u64; 5], numbers: &[f64; 6], settings: &[f64; 4]) -> Session
+fn session_in(phase: u64, words: &[u64; 8], numbers: &[f64; 6], settings: &[f64; 4]) -> Session
     ensures { λ r. ⌜ r ≡ session-in phase (now (words .entry)) (now (numbers .entry)) (now (settings .entry)) ⌝ }
 {
     let choice = crate::choice_in(phase <= 1, words, numbers);
+    let told = Settings::of(choice, settings[0], settings[1], settings[2], settings[3]);
     Session {
-        settings: Settings::of(choice, settings[0], settings[1], settings[2], settings[3]),
-        state: crate::state_in(phase, numbers),
+        settings: told.with_allowance(words[3]),
+        state: crate::state_in(phase, words[5], numbers),
     }
 }
 
@@ -25,7 +26,7 @@ fn session_in(phase: u64, words: &[u64; 5], numbers: &[f64; 6], settings: &[f64;
 // Settings and cost are read; what else the lists held is not looked at.
 #[no_mangle]
 pub extern "C" fn mboyaxin_sr1_start(
-    words: &mut [u64; 5],
+    words: &mut [u64; 8],
     numbers: &mut [f64; 6],
     settings: &[f64; 4],
 ) -> u64
@@ -40,7 +41,7 @@ pub extern "C" fn mboyaxin_sr1_start(
 
 #[no_mangle]
 pub extern "C" fn mboyaxin_sr1_propose(
-    words: &mut [u64; 5],
+    words: &mut [u64; 8],
     numbers: &mut [f64; 6],
     settings: &[f64; 4],
     n: usize,
@@ -55,7 +56,7 @@ pub extern "C" fn mboyaxin_sr1_propose(
         s (now (step .entry)) (now (trial .entry)) (now (scratch .entry)) after (now (step .exit)) (now (trial .exit)) (now (scratch .exit)))
         (told r (now (words .exit)) (now (numbers .exit))) ⌝ }
 {
-    let s = session_in(words[2], words, numbers, settings);
+    let s = session_in(words[4], words, numbers, settings);
     let after = sr1_trustregion::proposed(s, n, point, gradient, hessian, step, trial, scratch);
     let outcome = after.outcome;
     crate::keep(after.session.state, outcome, words, numbers)
@@ -63,7 +64,7 @@ pub extern "C" fn mboyaxin_sr1_propose(
 
 #[no_mangle]
 pub extern "C" fn mboyaxin_sr1_answer(
-    words: &mut [u64; 5],
+    words: &mut [u64; 8],
     numbers: &mut [f64; 6],
     settings: &[f64; 4],
     n: usize,
@@ -80,7 +81,7 @@ pub extern "C" fn mboyaxin_sr1_answer(
         s (now (point .entry)) (now (gradient .entry)) (now (hessian .entry)) (now (scratch .entry)) after (now (point .exit)) (now (gradient .exit)) (now (hessian .exit)) (now (scratch .exit)))
         (told r (now (words .exit)) (now (numbers .exit))) ⌝ }
 {
-    let s = session_in(words[2], words, numbers, settings);
+    let s = session_in(words[4], words, numbers, settings);
     let after = sr1_trustregion::judged(
         s,
         n,

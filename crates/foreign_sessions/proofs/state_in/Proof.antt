@@ -5,7 +5,7 @@ use Rattle.foreign_sessions.proofs.state_in.Statement.{statement}
 use Rattle.foreign_sessions.proofs.state_in.Tie as tie
 
 returns : tie.Need-returns
-returns c = c .in-phase .ensures ∙ rw (c .before .begin .ensures, c .before .before .before .before .phase-of .ensures)
+returns c = c .moved .ensures ∙ rw (c .before .begin .ensures, c .before .before .before .before .phase-of .ensures)
 
 pub state-in-spec : {M : Type 1} → statement M
 state-in-spec = tie.close (tie.spec (λ c. search needs) (λ c. search needs) (λ c κs. search needs) (λ c. search needs) (λ c. search needs) (λ c κs. search needs) (λ c κs. search needs) returns)
