@@ -6,7 +6,7 @@
 use crate::input::words;
 use crate::random::Random;
 use crate::replay::{self, Call};
-use crate::session::{Formulas, Kind, Phase, Settings, Station};
+use crate::session::{Formulas, Kind, Phase, Settings, Station, LARGEST_ALLOWANCE};
 use crate::vector::{Matrix, Vector};
 
 const SIZE: usize = 6;
@@ -30,6 +30,7 @@ pub fn input() -> Vec<u8> {
         eta: 0.125,
         epsilon: 1e-9,
         limit: 12,
+        allowance: LARGEST_ALLOWANCE,
     };
     let cost = fit.cost(&point);
     let (gradient, hessian) = fit.derivatives(&point);
@@ -112,7 +113,7 @@ impl Maker {
                 push_all(&mut self.script, &gradient.0);
                 push_all(&mut self.script, hessian.entries());
             }
-            Call::Put(..) => unreachable!("a fit station changes no session"),
+            Call::Put(..) | Call::Count(_) => unreachable!("a fit station changes no session"),
         }
         let mut lines = Vec::new();
         replay::run(&mut self.station, call, &Formulas, &mut lines).expect("memory can be written");

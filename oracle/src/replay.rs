@@ -2,18 +2,34 @@
 
 use crate::input::Reader;
 use crate::leaves::one_nan;
-use crate::session::{Engine, Kind, Phase, Proposal, Settings, Station};
+use crate::session::{Engine, Kind, Phase, Proposal, Settings, Station, LARGEST_ALLOWANCE};
 use crate::step::LARGEST_SIZE;
 use crate::vector::{Matrix, Vector};
 use std::io::{self, Write};
 
+/// So many further settings each of the kinds 3 and 4 knows: the allowance.
+const FURTHER: u64 = 1;
+
 /// Answers an input of program `replay`.
 pub fn answer(input: &[u8], engine: &impl Engine, out: &mut impl Write) -> io::Result<()> {
+    answer_by(
+        |station, call, out| run(station, call, engine, out),
+        input,
+        out,
+    )
+}
+
+/// The same with another way to run a call.
+pub(crate) fn answer_by<W: Write>(
+    mut run: impl FnMut(&mut Station, Call, &mut W) -> io::Result<()>,
+    input: &[u8],
+    out: &mut W,
+) -> io::Result<()> {
     let mut reader = Reader(input);
     let Some(start) = start(&mut reader) else {
         return writeln!(out, "bad input");
     };
-    let mut station = match start {
+    let mut station = match start.session {
         Ok(station) => station,
         Err(number) => return writeln!(out, "refused {number}"),
     };
@@ -22,9 +38,13 @@ pub fn answer(input: &[u8], engine: &impl Engine, out: &mut impl Write) -> io::R
         let Some(call) = call(&mut reader, &station) else {
             return writeln!(out, "bad input");
         };
-        run(&mut station, call, engine, out)?;
+        run(&mut station, call, out)?;
     }
-    end(&station, out)
+    end(&station, out)?;
+    if start.tells_count {
+        writeln!(out, "count {}", station.count)?;
+    }
+    Ok(())
 }
 
 /// A call, as its words have it.
@@ -33,6 +53,7 @@ pub enum Call {
     Cost(u64, f64, Option<Vector>),
     Derivatives(u64, Vector, Matrix),
     Put(f64, f64, Phase),
+    Count(u64),
 }
 
 /// Runs a call and writes its lines.
@@ -70,6 +91,10 @@ pub fn run(
         },
         Call::Put(radius, cost, phase) => {
             (station.radius, station.cost, station.phase) = (radius, cost, phase);
+            return Ok(());
+        }
+        Call::Count(count) => {
+            station.count = count;
             return Ok(());
         }
     };
@@ -113,13 +138,21 @@ impl Reader<'_> {
     }
 }
 
+/// What the words of a start make.
+pub(crate) struct Start {
+    pub(crate) session: Result<Station, u8>,
+    /// Kinds 3 and 4 tell the count at their end.
+    tells_count: bool,
+}
+
 /// The start's words, read whole before it is judged.
-pub(crate) fn start(reader: &mut Reader) -> Option<Result<Station, u8>> {
-    let kind = reader.word().filter(|kind| (1..=2).contains(kind))?;
+pub(crate) fn start(reader: &mut Reader) -> Option<Start> {
+    let kind = reader.word().filter(|kind| (1..=4).contains(kind))?;
+    let has_further = kind > 2;
     let n = reader.word().filter(|n| (1..=LARGEST_SIZE).contains(n))? as usize;
     let kernel = reader.word()?;
     let radius = reader.number()?;
-    let (kind, eta) = if kind == 1 {
+    let (kind, eta) = if kind % 2 == 1 {
         let max_radius = reader.number()?;
         (Kind::TrustRegion { max_radius }, reader.number()?)
     } else {
@@ -127,18 +160,35 @@ pub(crate) fn start(reader: &mut Reader) -> Option<Result<Station, u8>> {
         let (factor, tol_grad) = (reader.number()?, reader.number()?);
         (Kind::Sr1 { factor, tol_grad }, eta)
     };
+    let (epsilon, limit) = (reader.number()?, reader.word()?);
+    let further = if has_further {
+        further(reader)?
+    } else {
+        Vec::new()
+    };
     let settings = Settings {
         kind,
         kernel,
         radius,
         eta,
-        epsilon: reader.number()?,
-        limit: reader.word()?,
+        epsilon,
+        limit,
+        allowance: further.first().copied().unwrap_or(LARGEST_ALLOWANCE),
     };
     let cost = reader.number()?;
     let (point, gradient) = (reader.vector(n)?, reader.vector(n)?);
     let hessian = reader.matrix(n)?;
-    Some(Station::start(settings, cost, point, gradient, hessian))
+    Some(Start {
+        session: Station::start(settings, cost, point, gradient, hessian),
+        tells_count: has_further,
+    })
+}
+
+/// How many further settings there are, and then these. Those that are missing have the values of
+/// kinds 1 and 2.
+fn further(reader: &mut Reader) -> Option<Vec<u64>> {
+    let many = reader.word().filter(|many| *many <= FURTHER)?;
+    (0..many).map(|_| reader.word()).collect()
 }
 
 pub(crate) fn call(reader: &mut Reader, station: &Station) -> Option<Call> {
@@ -168,6 +218,7 @@ pub(crate) fn call(reader: &mut Reader, station: &Station) -> Option<Call> {
             };
             Call::Put(radius, cost, phase)
         }
+        5 => Call::Count(reader.word()?),
         _ => return None,
     })
 }
@@ -227,6 +278,125 @@ hessian 3ff0000000000000
         assert!(lines.starts_with("start\nend cost 4000000000000000 3ff0000000000000\n"));
     }
 
+    /// The same start in kind 3, or the like of it in kind 4, with these words behind `limit`.
+    fn head_with(kind: u64, further: &[u64]) -> Vec<u64> {
+        let numbers: &[f64] = match kind {
+            3 => &[1.0, 100.0, 0.125, 1e-9],
+            _ => &[1.0, 0.0005, 1e-8, 1e-3, 1e-9],
+        };
+        let numbers: Vec<u64> = numbers.iter().map(|x| x.to_bits()).collect();
+        let vectors = [0.0, 0.0, 2.0, 1.0].map(f64::to_bits);
+        [&[kind, 1, 1], &numbers[..], &[5], further, &vectors].concat()
+    }
+
+    const NAN: u64 = 0xfff0_0000_0000_0001;
+
+    /// Two hidden trials are allowed, and the third proposal is refused; then the session would be
+    /// ready, so an answer is out of turn.
+    #[test]
+    fn an_allowance_of_two() {
+        let trial = [1, 1, 2, 1, NAN];
+        let calls = [&trial[..], &trial, &[1, 1], &[2, 1, NAN]].concat();
+        let input = [head_with(3, &[1, 2]), calls].concat();
+        let proposed = "proposed 0\nstep bff0000000000000\ntrial bff0000000000000\n";
+        let hidden = "rejected 7ff8000000000000 radius 3ff0000000000000\n";
+        let end = "\
+refused 9
+refused 3
+end ready
+radius 3ff0000000000000
+cost 0000000000000000
+point 0000000000000000
+gradient 4000000000000000
+hessian 3ff0000000000000
+count 2
+";
+        let expected = ["start\n", proposed, hidden, proposed, hidden, end].concat();
+        assert_eq!(lines_of(&bytes(&input)), expected);
+    }
+
+    /// SR1 with an allowance of one. The step is −1, and a new gradient of 0 makes z −1 and q 1: the
+    /// Hessian becomes 2 and the radius 1/2. With the count back at 0 the step is −1/2, P is 3/4, a
+    /// fall of 3/4 doubles the radius, and the Hessian becomes 2 + 1/(1/2).
+    #[test]
+    fn an_allowance_of_one() {
+        let fall = (-0.75f64).to_bits();
+        let calls = [
+            &[1, 1, 2, 1, NAN, 0][..],
+            &[1, 1, 5, 0, 1, 1],
+            &[2, 1, fall, 0],
+        ];
+        let input = [head_with(4, &[1, 1]), calls.concat()].concat();
+        let expected = "\
+start
+proposed 0
+step bff0000000000000
+trial bff0000000000000
+rejected 7ff8000000000000 radius 3fe0000000000000
+refused 9
+proposed 0
+step bfe0000000000000
+trial bfe0000000000000
+accepted 3ff0000000000000 radius 3ff0000000000000
+end ready
+radius 3ff0000000000000
+cost bfe8000000000000
+point bfe0000000000000
+gradient 0000000000000000
+hessian 4010000000000000
+count 0
+";
+        assert_eq!(lines_of(&bytes(&input)), expected);
+    }
+
+    /// Kind 1, and kinds 3 and 4 without further settings, allow a thousand.
+    #[test]
+    fn counts_put_in() {
+        let last = |head: Vec<u64>, count: u64| {
+            let input = [head, vec![5, count, 1, 1]].concat();
+            let lines = lines_of(&bytes(&input));
+            let second = lines.lines().nth(1).unwrap().to_string();
+            (second, lines.lines().last().unwrap().to_string())
+        };
+        let said = |second: &str, last: &str| (second.to_string(), last.to_string());
+        let hessian = "hessian 3ff0000000000000";
+        assert_eq!(last(head(), 999), said("proposed 0", hessian));
+        assert_eq!(last(head(), 1000), said("refused 9", hessian));
+        assert_eq!(last(head(), 1001), said("refused 2", hessian));
+        for kind in [3, 4] {
+            let counted = |count| last(head_with(kind, &[0]), count);
+            assert_eq!(counted(999), said("proposed 0", "count 999"));
+            assert_eq!(counted(1000), said("refused 9", "count 1000"));
+            assert_eq!(counted(1001), said("refused 2", "count 1001"));
+            let most = said("refused 2", "count 18446744073709551615");
+            assert_eq!(counted(u64::MAX), most);
+        }
+    }
+
+    /// Words that make no start of kinds 3 and 4; and starts that are refused.
+    #[test]
+    fn bad_further_settings() {
+        for kind in [3, 4] {
+            let good = bytes(&head_with(kind, &[1, 1000]));
+            for length in 0..good.len() {
+                assert_eq!(lines_of(&good[..length]), "bad input\n");
+            }
+            assert!(lines_of(&good).starts_with("start\nend ready\n"));
+            for many in [2, 1 << 32, (1 << 32) + 1, u64::MAX] {
+                let input = head_with(kind, &[many, 1, 1]);
+                assert_eq!(lines_of(&bytes(&input)), "bad input\n");
+            }
+            for allowance in [0, 1001, (1 << 32) + 1, u64::MAX] {
+                let input = head_with(kind, &[1, allowance]);
+                assert_eq!(lines_of(&bytes(&input)), "refused 2\n");
+            }
+            // What is bad comes before what is refused: kernel 4 is none.
+            let mut input = head_with(kind, &[2, 1, 1]);
+            input[2] = 4;
+            assert_eq!(lines_of(&bytes(&input)), "bad input\n");
+        }
+    }
+
     #[test]
     fn bad_inputs() {
         let head = head();
@@ -237,12 +407,12 @@ hessian 3ff0000000000000
         for length in 8 * head.len() + 1..good.len() {
             assert_eq!(lines_of(&good[..length]), "start\nbad input\n");
         }
-        for (place, wrong) in [(0, 0), (0, 3), (1, 0), (1, 65)] {
+        for (place, wrong) in [(0, 0), (0, 5), (1, 0), (1, 65)] {
             let mut head = head.clone();
             head[place] = wrong;
             assert_eq!(lines_of(&bytes(&head)), "bad input\n");
         }
-        for call in [&[0][..], &[5], &[4, 0, 0, 3, 0, 0]] {
+        for call in [&[0][..], &[5], &[6, 0], &[4, 0, 0, 3, 0, 0]] {
             let input = [&head[..], call].concat();
             assert_eq!(lines_of(&bytes(&input)), "start\nbad input\n");
         }

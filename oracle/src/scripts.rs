@@ -154,7 +154,7 @@ pub fn difference(
 const KERNELS: [&str; 4] = ["Cauchy", "Dogleg", "Steihaug", "no kernel"];
 
 /// Its rows: the lines by their first words, and sums.
-const ROWS: [&str; 22] = [
+const ROWS: [&str; 23] = [
     "start",
     "proposed",
     "accepted",
@@ -170,6 +170,7 @@ const ROWS: [&str; 22] = [
     "refused 6",
     "refused 7",
     "refused 8",
+    "refused 9",
     "bad input",
     "end ready",
     "end cost",
@@ -190,7 +191,7 @@ fn count(tally: &mut Tally, script: &[u8], lines: &[u8]) {
         let words: Vec<&str> = line.split(' ').collect();
         let name = match words[..] {
             ["refused" | "end" | "bad", ..] => words[..2].join(" "),
-            ["step" | "trial" | "point" | "gradient" | "hessian" | "radius" | "cost", ..] => {
+            ["step" | "trial" | "point" | "gradient" | "hessian" | "radius" | "cost" | "count", ..] => {
                 continue
             }
             [word, "7ff8000000000000", ..] => format!("{word}, NaN"),

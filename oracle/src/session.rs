@@ -1,10 +1,13 @@
-//! The two sessions as document 01 has them: settings, phases, refusals, and what each call leaves.
-//! How a proposal is worked out and a trial judged is an engine's part: by document 01's formulas
+//! The two sessions as document 01 has them, with request Five's count of NaN answers in a row:
+//! settings, phases, refusals, and what each call leaves. argmin has no such count. How a proposal is worked out and a trial judged is an engine's part: by document 01's formulas
 //! here, by argmin's own code in argmin_sessions.rs.
 
 use crate::formulas;
 use crate::step::{self, Call, Kernel};
 use crate::vector::{Matrix, Vector};
+
+/// The most NaN answers in a row that a setting may allow.
+pub const LARGEST_ALLOWANCE: u64 = 1_000;
 
 /// The settings of either kind, as given.
 #[derive(Clone, Copy, Debug)]
@@ -15,6 +18,8 @@ pub struct Settings {
     pub eta: f64,
     pub epsilon: f64,
     pub limit: u64,
+    /// So many NaN answers in a row are allowed.
+    pub allowance: u64,
 }
 
 #[derive(Clone, Copy, Debug)]
@@ -53,6 +58,7 @@ impl Settings {
         own && self.kernel().is_some()
             && above_zero(self.epsilon)
             && self.limit <= step::LARGEST_LIMIT
+            && (1..=LARGEST_ALLOWANCE).contains(&self.allowance)
     }
 }
 
@@ -76,6 +82,8 @@ pub struct Station {
     pub radius: f64,
     pub cost: f64,
     pub phase: Phase,
+    /// NaN answers in a row.
+    pub count: u64,
     pub point: Vector,
     pub gradient: Vector,
     pub hessian: Matrix,
@@ -143,6 +151,7 @@ impl Station {
             radius,
             cost,
             phase: Phase::Ready,
+            count: 0,
             point,
             gradient,
             hessian,
@@ -164,6 +173,9 @@ impl Station {
         if !(self.radius.is_finite() && self.radius >= 0.0 && self.cost.is_finite()) {
             return Err(2);
         }
+        if self.count > self.settings.allowance {
+            return Err(2);
+        }
         Ok(())
     }
 
@@ -183,6 +195,9 @@ impl Station {
         }
         if self.radius == 0.0 {
             return Err(5);
+        }
+        if self.count == self.settings.allowance {
+            return Err(9);
         }
         let (step, passes) = engine.solve(&self.call())?;
         let norm = step.norm();
@@ -260,6 +275,8 @@ impl Station {
         }
         self.radius = verdict.radius;
         self.phase = Phase::Ready;
+        // At most one above the allowance, since the count was not above it.
+        self.count = if cost.is_nan() { self.count + 1 } else { 0 };
         if verdict.accepted {
             self.point = verdict.point.clone().unwrap_or_else(|| self.trial.clone());
             self.cost = cost;
@@ -284,7 +301,7 @@ impl Station {
             return Err(4);
         }
         (self.gradient, self.hessian) = (gradient, hessian);
-        self.phase = Phase::Ready;
+        (self.phase, self.count) = (Phase::Ready, 0);
         Ok(())
     }
 }
@@ -386,6 +403,7 @@ mod tests {
         eta: 0.125,
         epsilon: 1e-9,
         limit: 5,
+        allowance: 2,
     };
 
     const SR1: Settings = Settings {
@@ -483,9 +501,124 @@ mod tests {
         assert_eq!(station.propose(2, &Formulas), Ok(Proposal::Done));
     }
 
+    /// Up to the allowance, which is 2, and on from there when the count is put back.
+    #[test]
+    fn hidden_trials_are_counted() {
+        let mut station = start(TRUST_REGION, 10.0).unwrap();
+        let made = Ok(Proposal::Made { passes: 0 });
+        let hide = |station: &mut Station| {
+            assert_eq!(station.propose(2, &Formulas), made);
+            station.answer(2, f64::NAN, None, &Formulas).unwrap();
+            station.count
+        };
+        assert_eq!([hide(&mut station), hide(&mut station)], [1, 2]);
+        assert_eq!(station.propose(2, &Formulas), Err(9));
+        assert_eq!((station.count, station.phase), (2, Phase::Ready));
+        station.count = 0;
+        assert_eq!([hide(&mut station), hide(&mut station)], [1, 2]);
+    }
+
+    /// A cost that is told sets the count to 0, whether it is accepted or not, and a ratio of NaN
+    /// is no NaN answer; so do derivatives. What is refused leaves it.
+    #[test]
+    fn answers_and_the_count() {
+        let counted = |promised, cost| {
+            let mut station = awaiting(TRUST_REGION, 10.0, promised, 8.0);
+            station.count = 2;
+            let verdict = station.answer(2, cost, None, &Formulas).ok();
+            (verdict.map(|v| (v.accepted, v.ratio.is_nan())), station)
+        };
+        let after = |promised, cost| {
+            let (said, station) = counted(promised, cost);
+            (said, station.count)
+        };
+        assert_eq!(after(6.0, 9.0), (Some((true, false)), 0));
+        assert_eq!(after(6.0, 11.0), (Some((false, false)), 0));
+        assert_eq!(after(10.0, 10.0), (Some((false, true)), 0));
+        assert_eq!(after(6.0, f64::NAN), (Some((false, true)), 3));
+        assert_eq!(after(6.0, f64::INFINITY), (None, 2));
+        let (_, mut station) = counted(6.0, 9.0);
+        station.count = 2;
+        let next = Vector(vec![1.0; 2]);
+        let hessian = station.hessian.clone();
+        let renewed = station.renew(3, next.clone(), hessian.clone());
+        assert_eq!((renewed, station.count), (Err(1), 2));
+        assert_eq!(
+            (station.renew(2, next, hessian), station.count),
+            (Ok(()), 0)
+        );
+    }
+
+    /// SR1's NaN answer updates the Hessian, and is not taken where that is refused.
+    #[test]
+    fn a_nan_answer_that_is_refused() {
+        let mut station = awaiting(SR1, 10.0, 6.0, 1.0);
+        (station.step, station.count) = (Vector(vec![1.0, 0.0]), 1);
+        let next = |first, second| Vector(vec![3.0 + first, 4.0 + second]);
+        let mut answer = |gradient: Vector| {
+            let refused = station.answer(2, f64::NAN, Some(&gradient), &Formulas);
+            (refused.err(), station.count)
+        };
+        assert_eq!(answer(next(1.0, 1.0)), (Some(8), 1));
+        assert_eq!(answer(next(f64::NAN, 1.0)), (Some(4), 1));
+        assert_eq!(answer(next(3.0, 0.0)), (None, 2));
+        assert_eq!(answer(next(3.0, 0.0)), (Some(3), 2));
+    }
+
+    /// 9 comes behind everything but the kernel; a count above the allowance is 2 to every call,
+    /// before its turn.
+    #[test]
+    fn refusal_nine_in_order() {
+        let singular = Settings {
+            kernel: 2,
+            ..TRUST_REGION
+        };
+        let mut station = start(singular, 10.0).unwrap();
+        station.hessian = Matrix::new(2, vec![1.0; 4]);
+        assert_eq!(station.propose(2, &Formulas), Err(6));
+        station.count = 2;
+        assert_eq!(station.propose(2, &Formulas), Err(9));
+        station.radius = 0.0;
+        assert_eq!(station.propose(2, &Formulas), Err(5));
+        station.gradient.0[1] = f64::INFINITY;
+        assert_eq!(station.propose(2, &Formulas), Err(4));
+        station.phase = Phase::Derivatives;
+        assert_eq!(station.propose(2, &Formulas), Err(3));
+        station.count = 3;
+        let hessian = station.hessian.clone();
+        assert_eq!(station.propose(2, &Formulas), Err(2));
+        assert_eq!(station.answer(2, 9.0, None, &Formulas).err(), Some(2));
+        assert_eq!(
+            station.renew(2, Vector(vec![1.0; 2]), hessian.clone()),
+            Err(2)
+        );
+        assert_eq!(station.renew(1, Vector(vec![1.0; 2]), hessian), Err(1));
+        let mut done = start(SR1, 10.0).unwrap();
+        (done.radius, done.count, done.gradient) = (0.0, 2, Vector(vec![0.0; 2]));
+        assert_eq!(done.propose(2, &Formulas), Ok(Proposal::Done));
+        done.count = 3;
+        assert_eq!(done.propose(2, &Formulas), Err(2));
+    }
+
     #[test]
     fn starts() {
         assert_eq!(start(TRUST_REGION, f64::NAN).err(), Some(4));
+        for settings in [TRUST_REGION, SR1] {
+            for (allowance, cost, refusal) in [
+                (1, 1.0, None),
+                (1_000, 1.0, None),
+                (0, 1.0, Some(2)),
+                (1_001, f64::NAN, Some(2)),
+                (u64::MAX, 1.0, Some(2)),
+            ] {
+                let settings = Settings {
+                    allowance,
+                    ..settings
+                };
+                assert_eq!(start(settings, cost).err(), refusal);
+            }
+            assert_eq!(start(settings, 1.0).unwrap().count, 0);
+        }
         let with_eta = |settings: Settings, eta| start(Settings { eta, ..settings }, 1.0).err();
         for (eta, refusal) in [
             (0.0, None),

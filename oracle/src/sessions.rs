@@ -5,7 +5,7 @@ use crate::cases::{gradient, hessian, some_kind, whole};
 use crate::input::words;
 use crate::random::{made_bits, with_exponent, Random, NANS};
 use crate::replay::{self, Call};
-use crate::session::{Formulas, Kind, Phase, Settings, Station};
+use crate::session::{Formulas, Kind, Phase, Settings, Station, LARGEST_ALLOWANCE};
 use crate::vector::{Matrix, Vector};
 
 const INFINITY: u64 = 0x7ff0_0000_0000_0000;
@@ -225,6 +225,7 @@ fn sound_settings(random: &mut Random, n: usize) -> Settings {
             eta: random.pick(&[0.125, 0.125, 0.0, -0.0, 0.2, 0.25f64.next_down()]),
             epsilon,
             limit,
+            allowance: LARGEST_ALLOWANCE,
         }
     } else {
         let factor = random.pick(&[1e-8, 1e-8, 0.5, 1f64.next_down(), 5e-324]);
@@ -236,6 +237,7 @@ fn sound_settings(random: &mut Random, n: usize) -> Settings {
             eta: random.pick(&[0.0005, 0.0005, 0.009, 5e-324, 0.01f64.next_down()]),
             epsilon,
             limit,
+            allowance: LARGEST_ALLOWANCE,
         }
     }
 }

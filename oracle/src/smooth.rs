@@ -4,7 +4,7 @@
 use crate::random::{made_bits, with_exponent, Random};
 use crate::replay::{self, Call};
 use crate::scripts::many;
-use crate::session::{Formulas, Kind, Phase, Settings, Station};
+use crate::session::{Formulas, Kind, Phase, Settings, Station, LARGEST_ALLOWANCE};
 use crate::vector::{Matrix, Vector};
 
 /// `count` scripts of a kind of session.
@@ -106,6 +106,7 @@ fn settings(random: &mut Random, kind: u64) -> Settings {
         },
         epsilon: random.pick(&[1e-9, 1e-3]),
         limit: random.pick(&[5, 20, 100]),
+        allowance: LARGEST_ALLOWANCE,
     }
 }
 

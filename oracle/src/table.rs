@@ -12,7 +12,7 @@ pub fn answer(input: &[u8], engine: &impl Engine, out: &mut impl Write) -> io::R
     let Some(start) = start(&mut reader) else {
         return bad(out);
     };
-    let mut station = match start {
+    let mut station = match start.session {
         Ok(station) => station,
         Err(number) => return writeln!(out, "The start is {}", refused(number)),
     };
@@ -39,16 +39,17 @@ fn bad(out: &mut impl Write) -> io::Result<()> {
     )
 }
 
-/// Document 01's reasons.
+/// The reasons of document 01 and of request Five.
 fn refused(number: u8) -> String {
     let reason = match number {
         1 => "n or a length is wrong",
-        2 => "a setting, the radius or the cost of the session is out of range",
+        2 => "a setting, or the radius, the cost or the count of the session, is out of range",
         3 => "it is out of turn",
         4 => "a number that came with it is not finite",
         5 => "the radius is zero",
         6 => "the Hessian has no inverse, a pivot is zero or nearly",
         7 => "no root leads to the edge of the region",
+        9 => "as many trials as are allowed in a row were hidden: show the markers, then set the count to 0",
         _ => "a number of the result would not be finite",
     };
     format!("refused ({number}): {reason}")
@@ -88,11 +89,20 @@ fn row(
         Call::Derivatives(n, gradient, hessian) => station.renew(n, gradient, hessian),
         Call::Put(radius, cost, phase) => {
             (station.radius, station.cost, station.phase) = (radius, cost, phase);
-            writeln!(out, "       the session is changed by hand")?;
+            by_hand(out)?;
+            Ok(())
+        }
+        Call::Count(count) => {
+            station.count = count;
+            by_hand(out)?;
             Ok(())
         }
     };
     Ok(done)
+}
+
+fn by_hand(out: &mut impl Write) -> io::Result<()> {
+    writeln!(out, "       the session is changed by hand")
 }
 
 fn end(station: &Station, out: &mut impl Write) -> io::Result<()> {
@@ -110,4 +120,40 @@ fn end(station: &Station, out: &mut impl Write) -> io::Result<()> {
         writeln!(out, "       {}", text(x))?;
     }
     Ok(())
+}
+
+#[cfg(test)]
+mod tests {
+    use super::*;
+    use crate::input::words;
+    use crate::session::Formulas;
+
+    /// Half the square of x, from 2, with one hidden trial allowed: the markers stay hidden, the
+    /// count is put to 2 by hand and then back to 0.
+    #[test]
+    fn too_many_hidden_trials() {
+        let numbers = [1.0, 100.0, 0.125, 1e-9].map(f64::to_bits);
+        let vectors = [2.0, 2.0, 2.0, 1.0].map(f64::to_bits);
+        let head = [&[3, 1, 1], &numbers[..], &[5, 1, 1], &vectors[..]].concat();
+        let calls = [1, 1, 2, 1, f64::NAN.to_bits(), 1, 1, 5, 2, 1, 1, 5, 0];
+        let mut bytes = Vec::new();
+        words(&mut bytes, &[&head[..], &calls].concat());
+        let expected = "\
+Start at cost 2, radius 1.
+
+trial  cost                    ratio                   verdict   radius
+    1  nan                     nan                     hidden    1
+       a call is refused (9): as many trials as are allowed in a row were hidden: show the markers, then set the count to 0
+       the session is changed by hand
+       a call is refused (2): a setting, or the radius, the cost or the count of the session, is out of range
+       the session is changed by hand
+
+End at cost 2, radius 1, ready for a proposal.
+Point:
+       2
+";
+        let mut out = Vec::new();
+        answer(&bytes, &Formulas, &mut out).unwrap();
+        assert_eq!(String::from_utf8(out).unwrap(), expected);
+    }
 }
