@@ -44,18 +44,25 @@ fn show(case: &[u8], argmin: &Answer, formulas: &Answer, out: &mut impl Write) -
     formulas.write(out)
 }
 
-/// The same for the sessions of `count` seeds from `seed` on, counting lines by kind and first word.
+/// The same for the sessions of `count` seeds from `seed` on, two for each: of kinds 1 and 2 and of
+/// kinds 3 and 4. Counts lines by kind and first word.
 pub fn report_sessions(count: u64, seed: u64, out: &mut impl Write) -> io::Result<bool> {
     let mut lines: BTreeMap<(String, String), u64> = BTreeMap::new();
     let mut differing = 0;
-    for seed in (seed..).take(count as usize) {
-        let input = sessions::input(seed);
+    let seeds = (seed..).take(count as usize);
+    let inputs = seeds.flat_map(|seed| {
+        let both = [sessions::input(seed), sessions::hidden(seed)];
+        both.map(|input| (seed, input))
+    });
+    for (seed, input) in inputs {
         let (mut by_argmin, mut by_formulas) = (Vec::new(), Vec::new());
         replay::answer(&input, &Argmin, &mut by_argmin)?;
         replay::answer(&input, &Formulas, &mut by_formulas)?;
         let kind = match input.first() {
             Some(1) => "TrustRegion",
             Some(2) => "SR1TrustRegion",
+            Some(3) => "TrustRegion,NaN",
+            Some(4) => "SR1TrustRegion,NaN",
             _ => "no kind",
         };
         for line in String::from_utf8_lossy(&by_argmin).lines() {
@@ -70,14 +77,14 @@ pub fn report_sessions(count: u64, seed: u64, out: &mut impl Write) -> io::Resul
         if by_argmin != by_formulas {
             differing += 1;
             if differing <= SHOWN {
-                writeln!(out, "session {seed} differs")?;
+                writeln!(out, "session {seed} of {kind} differs")?;
             }
         }
     }
     for ((kind, name), counted) in lines {
         writeln!(out, "{counted:9}  {kind}: {name}")?;
     }
-    writeln!(out, "{count} sessions, {differing} differ")?;
+    writeln!(out, "{} sessions, {differing} differ", 2 * count)?;
     Ok(differing == 0)
 }
 

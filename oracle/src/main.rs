@@ -30,10 +30,11 @@ usage: oracle leaves [--counts]    answer the calls on standard input, as progra
        oracle replay               answer an input of it, by argmin's own code where that is built
                                    in, else by the formulas
        oracle scripts COUNT SEED [KIND]
-                                   write an input of program `replays` of COUNT scripts
+                                   write an input of program `replays` of COUNT scripts; KIND: of
+                                   this kind (1 to 4), else of kinds 1 and 2
        oracle smooth COUNT SEED KIND
                                    the same: fits of smooth functions, some dozen trials each
-       oracle special              the same: ten marked sessions of SR1TrustRegion
+       oracle special              the same: marked sessions that chance would hardly make
        oracle replay --many [--counts]
                                    answer it; --counts: and count the lines, on standard error
        oracle difference FILE      the first script of the input whose lines are not those in FILE
@@ -79,13 +80,15 @@ fn main() -> ExitCode {
         ["replay", "--many"] => answer_scripts(false),
         ["replay", "--many", "--counts"] => answer_scripts(true),
         ["smooth", count, seed, kind] => match (count.parse(), seed.parse(), kind.parse()) {
-            (Ok(count), Ok(seed), Ok(kind)) => write_all(&smooth::input(count, seed, kind)),
+            (Ok(count), Ok(seed), Ok(kind @ 1..=4)) => write_all(&smooth::input(count, seed, kind)),
             _ => return usage(),
         },
         ["special"] => write_all(&special::input()),
         ["difference", file] => difference(file),
         ["scripts", count, seed, kind] => match (count.parse(), seed.parse(), kind.parse()) {
-            (Ok(count), Ok(seed), Ok(kind)) => write_all(&scripts::input(count, seed, Some(kind))),
+            (Ok(count), Ok(seed), Ok(kind @ 1..=4)) => {
+                write_all(&scripts::input(count, seed, Some(kind)))
+            }
             _ => return usage(),
         },
         ["decimal"] => answer_decimal(),

@@ -38,22 +38,38 @@ fn script(random: &mut Random, kind: Option<u64>) -> Vec<u64> {
     if !random.once_in(12) {
         return script;
     }
-    match random.below(8) {
-        0 => replace(&mut script, 0, random.pick(&[0, 3, 1 << 32 | 1, u64::MAX])),
+    // Kind 3 and call 5 were unknown once, and the words of kinds 1 and 2 are stored.
+    let hidden = is_hidden(kind);
+    let (next_kind, next_call) = if hidden { (5, 6) } else { (3, 5) };
+    match random.below(if hidden { 10 } else { 8 }) {
+        0 => {
+            let wrong = [0, next_kind, 1 << 32 | 1, u64::MAX];
+            replace(&mut script, 0, random.pick(&wrong));
+        }
         1 => {
             let n = script.get(1).copied().unwrap_or(1);
             let wrong = [0, 65, n | 1 << 32, n + 1, n - 1, u64::MAX];
             replace(&mut script, 1, random.pick(&wrong));
         }
-        2 => script.extend([random.pick(&[0, 5, 1 << 32 | 1]), 1, 1, 1, 1, 1]),
+        2 => script.extend([random.pick(&[0, next_call, 1 << 32 | 1]), 1, 1, 1, 1, 1]),
         3 => script.extend([4, 0, 0, random.pick(&[3, 1 << 32, u64::MAX]), 0, 0]),
         4 => script.clear(),
+        8 | 9 => {
+            // How many further settings there are: more than the kind knows.
+            let place = if kind == Some(3) { 8 } else { 9 };
+            replace(&mut script, place, random.pick(&[2, 1 << 32 | 1, u64::MAX]));
+        }
         _ => {
             let length = random.below(script.len() as u64 + 1);
             script.truncate(length as usize);
         }
     }
     script
+}
+
+/// Kinds 3 and 4 have allowances, and many hidden trials.
+fn is_hidden(kind: Option<u64>) -> bool {
+    matches!(kind, Some(3 | 4))
 }
 
 fn replace(script: &mut [u64], place: usize, word: u64) {
@@ -65,7 +81,12 @@ fn replace(script: &mut [u64], place: usize, word: u64) {
 /// The whole words of a random session.
 fn session(random: &mut Random, kind: Option<u64>) -> Vec<u64> {
     loop {
-        let bytes = sessions::input(random.word());
+        let seed = random.word();
+        let bytes = if is_hidden(kind) {
+            sessions::hidden(seed)
+        } else {
+            sessions::input(seed)
+        };
         let chunks = bytes.chunks_exact(8);
         let script: Vec<u64> = chunks
             .map(|word| u64::from_le_bytes(word.try_into().expect("eight bytes")))
@@ -244,19 +265,27 @@ mod tests {
         assert_eq!(answered(&bytes), "bad input\n".repeat(3));
     }
 
-    /// Every kind of line comes up, for every kernel that can have it.
+    /// Every kind of line comes up, for every kernel and every kind of session that can have it.
     #[test]
     fn lines_of_every_kind() {
+        for kind in 1..=4 {
+            every_line(kind);
+        }
+    }
+
+    fn every_line(kind: u64) {
         let mut out = Vec::new();
-        let input = input(600, 1, Some(1));
+        let input = input(600, 1, Some(kind));
         let tally = answer(&input, &Formulas, &mut out).unwrap();
+        let (sr1, hidden) = (kind % 2 == 0, kind > 2);
         for (name, kernels) in [
             ("start", 7),
             ("proposed", 7),
             ("accepted", 7),
             ("rejected", 7),
             ("rejected, NaN", 7),
-            ("taken", 7),
+            ("taken", if sr1 { 0 } else { 7 }),
+            ("done", if sr1 { 7 } else { 0 }),
             ("bad input", 7),
             ("refused 1", 7),
             ("refused 2", 7),
@@ -266,13 +295,39 @@ mod tests {
             ("refused 6", 2),
             ("refused 7", 4),
             ("refused 8", 7),
+            ("refused 9", if hidden { 7 } else { 0 }),
             ("end ready", 7),
             ("end cost", 7),
-            ("end derivatives", 7),
+            ("end derivatives", if sr1 { 0 } else { 7 }),
         ] {
-            for kernel in (0..3).filter(|k| kernels & 1 << k != 0) {
-                assert!(tally.get(name, kernel) > 0, "no {name}: {kernel}");
+            for kernel in 0..3 {
+                let comes = kernels & 1 << kernel != 0;
+                let counted = tally.get(name, kernel);
+                assert_eq!(counted > 0, comes, "kind {kind}, {name}: {kernel}");
             }
+        }
+    }
+
+    /// Two sessions of three have an allowance of 1 to 5, and start.
+    #[test]
+    fn small_allowances() {
+        for kind in [3, 4] {
+            let (count, input) = (3000, input(3000, 5, Some(kind)));
+            let (mut small, mut left) = (0, &input[..]);
+            while let Some((script, rest)) = split(left) {
+                let started = lines(script, &Formulas).unwrap().starts_with(b"start");
+                let words: Vec<u64> = script
+                    .chunks_exact(8)
+                    .map(|word| u64::from_le_bytes(word.try_into().unwrap()))
+                    .collect();
+                let place = if kind == 3 { 8 } else { 9 };
+                small += match words.get(place..place + 2) {
+                    Some([1, 1..=5]) if started => 1,
+                    _ => 0,
+                };
+                left = rest;
+            }
+            assert!(3 * small >= 2 * count, "kind {kind}: {small} of {count}");
         }
     }
 }

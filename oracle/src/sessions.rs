@@ -11,11 +11,24 @@ use crate::vector::{Matrix, Vector};
 const INFINITY: u64 = 0x7ff0_0000_0000_0000;
 const MINUS: u64 = 1 << 63;
 
-/// The input of this seed.
+/// The input of this seed, of kind 1 or 2.
 pub fn input(seed: u64) -> Vec<u8> {
+    made(Random::new(seed), 0)
+}
+
+/// The same of kind 3 or 4, mostly with a small allowance: trials are hidden again and again, and
+/// counts are put in.
+pub fn hidden(seed: u64) -> Vec<u8> {
+    let mut random = Random::new(seed);
+    let hidden = random.pick(&[1, 3, 5, 6, 7]);
+    made(random, hidden)
+}
+
+fn made(random: Random, hidden: u64) -> Vec<u8> {
     let mut maker = Maker {
-        random: Random::new(seed),
+        random,
         words: Vec::new(),
+        hidden,
     };
     maker.session();
     let mut bytes = Vec::new();
@@ -31,34 +44,31 @@ pub fn input(seed: u64) -> Vec<u8> {
 struct Maker {
     random: Random,
     words: Vec<u64>,
+    /// So many costs out of eight are hidden in kinds 3 and 4. 0 in kinds 1 and 2: they have what
+    /// `trial_cost` gives, and their words are stored.
+    hidden: u64,
 }
 
 impl Maker {
     fn session(&mut self) {
-        let n = match self.random.below(40) {
-            0..36 => self.random.between(1, 4),
-            36..39 => self.random.between(5, 10),
-            _ => self.random.between(11, 64),
-        } as usize;
+        let n = self.size();
         let settings = self.settings(n);
         let cost = self.cost();
         let point = self.numbers(n);
-        let g = gradient(&mut self.random, n);
-        let gradient = self.damaged(g);
-        let h = hessian(&mut self.random, n);
-        let hessian = Matrix::new(n, self.damaged(h));
+        let (gradient, hessian) = self.derivatives(n);
         self.words.push(cost.to_bits());
         self.push_all(&point);
-        self.push_all(&gradient);
+        self.push_all(&gradient.0);
         self.push_all(hessian.entries());
-        let start = Station::start(settings, cost, Vector(point), Vector(gradient), hessian);
+        let start = Station::start(settings, cost, Vector(point), gradient, hessian);
         let Ok(mut station) = start else {
             // What follows a refused start is not looked at.
             self.words.extend([9; 2]);
             return;
         };
         let mut refusals = 0;
-        for _ in 0..self.random.below(30) {
+        // A hidden trial takes two calls, and some in a row are wanted.
+        for _ in 0..self.random.below(if self.hidden > 0 { 60 } else { 30 }) {
             let call = self.call(&station);
             let mut lines = Vec::new();
             replay::run(&mut station, call, &Formulas, &mut lines).expect("memory can be written");
@@ -73,9 +83,22 @@ impl Maker {
             }
         }
         if self.random.once_in(30) {
-            let unknown = self.random.pick(&[0, 5, (1 << 32) + 1, u64::MAX]);
+            // Call 5 was unknown once, and the words of kinds 1 and 2 are stored.
+            let next = if self.hidden > 0 { 6 } else { 5 };
+            let unknown = self.random.pick(&[0, next, (1 << 32) + 1, u64::MAX]);
             self.words.extend([unknown, 0, 0]);
         }
+    }
+
+    /// Mostly small. Sessions of kinds 3 and 4 are longer, and hardly ever of more than ten.
+    fn size(&mut self) -> usize {
+        let n = match self.random.below(40) {
+            0..36 => self.random.between(1, 4),
+            36..39 => self.random.between(5, 10),
+            _ if self.hidden > 0 && !self.random.once_in(10) => self.random.between(1, 4),
+            _ => self.random.between(11, 64),
+        };
+        n as usize
     }
 
     fn settings(&mut self, n: usize) -> Settings {
@@ -83,16 +106,39 @@ impl Maker {
         if self.random.once_in(14) {
             spoil(&mut self.random, &mut settings);
         }
-        let (kind, own) = match settings.kind {
+        let (mut kind, own) = match settings.kind {
             Kind::TrustRegion { max_radius } => (1, vec![max_radius, settings.eta]),
             Kind::Sr1 { factor, tol_grad } => (2, vec![settings.eta, factor, tol_grad]),
         };
+        if self.hidden > 0 {
+            kind += 2;
+        }
         self.words
             .extend([kind, n as u64, settings.kernel, settings.radius.to_bits()]);
         self.push_all(&own);
         self.words
             .extend([settings.epsilon.to_bits(), settings.limit]);
+        if self.hidden > 0 {
+            settings.allowance = self.allowance();
+        }
         settings
+    }
+
+    /// The words behind the limit; those of some sessions name no allowance.
+    fn allowance(&mut self) -> u64 {
+        if self.random.once_in(16) {
+            self.words.push(0);
+            return LARGEST_ALLOWANCE;
+        }
+        let random = &mut self.random;
+        let allowance = match random.below(40) {
+            0..36 => random.between(1, 5) as u64,
+            36 | 37 => random.between(6, 20) as u64,
+            38 => LARGEST_ALLOWANCE,
+            _ => random.pick(&[0, LARGEST_ALLOWANCE + 1, (1 << 32) + 1, u64::MAX]),
+        };
+        self.words.extend([1, allowance]);
+        allowance
     }
 
     fn push_all(&mut self, numbers: &[f64]) {
@@ -121,9 +167,26 @@ impl Maker {
         numbers
     }
 
+    /// A gradient and a Hessian of any kind. In kinds 3 and 4 they are mostly plain: a session that
+    /// its numbers stop counts nothing.
+    fn derivatives(&mut self, n: usize) -> (Vector, Matrix) {
+        if self.hidden > 0 && !self.random.once_in(4) {
+            return plain(&mut self.random, n);
+        }
+        let g = gradient(&mut self.random, n);
+        let g = self.damaged(g);
+        let h = hessian(&mut self.random, n);
+        (Vector(g), Matrix::new(n, self.damaged(h)))
+    }
+
     /// Writes a call and hands it back: mostly the one whose turn it is.
     fn call(&mut self, station: &Station) -> Call {
         let sr1 = matches!(station.settings.kind, Kind::Sr1 { .. });
+        if self.hidden > 0 {
+            if let Some(call) = self.by_hand(station, sr1) {
+                return call;
+            }
+        }
         let mut turn = match station.phase {
             Phase::Ready => 1,
             Phase::Cost { .. } => 2,
@@ -135,19 +198,18 @@ impl Maker {
         if self.random.once_in(16) {
             turn = 4;
         }
-        self.words.push(turn);
         let n = station.size();
         let told = self.told(n as u64);
         match turn {
             1 => {
-                self.words.push(told);
+                self.words.extend([1, told]);
                 Call::Propose(told)
             }
             2 => {
-                let cost = trial_cost(&mut self.random, station);
-                self.words.extend([told, cost.to_bits()]);
+                let cost = self.trial_cost(station);
+                self.words.extend([2, told, cost.to_bits()]);
                 let gradient = sr1.then(|| {
-                    let Vector(numbers) = trial_gradient(&mut self.random, station);
+                    let Vector(numbers) = self.trial_gradient(station);
                     Vector(self.damaged(numbers))
                 });
                 if let Some(gradient) = &gradient {
@@ -156,14 +218,11 @@ impl Maker {
                 Call::Cost(told, cost, gradient)
             }
             3 => {
-                let g = gradient(&mut self.random, n);
-                let g = self.damaged(g);
-                let h = hessian(&mut self.random, n);
-                let h = self.damaged(h);
-                self.words.push(told);
-                self.push_all(&g);
-                self.push_all(&h);
-                Call::Derivatives(told, Vector(g), Matrix::new(n, h))
+                let (g, h) = self.derivatives(n);
+                self.words.extend([3, told]);
+                self.push_all(&g.0);
+                self.push_all(h.entries());
+                Call::Derivatives(told, g, h)
             }
             _ => self.put(station, sr1),
         }
@@ -177,6 +236,65 @@ impl Maker {
         } else {
             n
         }
+    }
+
+    fn trial_cost(&mut self, station: &Station) -> f64 {
+        if self.hidden > 0 && self.random.below(8) < self.hidden {
+            return f64::from_bits(self.random.pick(&NANS));
+        }
+        trial_cost(&mut self.random, station)
+    }
+
+    /// Of kinds 3 and 4 mostly one that updates the Hessian without a refusal.
+    fn trial_gradient(&mut self, station: &Station) -> Vector {
+        if self.hidden == 0 || self.random.once_in(4) {
+            return trial_gradient(&mut self.random, station);
+        }
+        let Vector(predicted) = station.hessian.times(&station.step);
+        let expected = station
+            .gradient
+            .0
+            .iter()
+            .zip(&predicted)
+            .map(|(g, p)| g + p);
+        let mut off = || self.random.pick(&[-2.0, -1.0, 1.0, 3.0]);
+        let found = expected.map(|x| if x.is_finite() { x + off() } else { 1.0 });
+        Vector(found.collect())
+    }
+
+    /// In kinds 3 and 4 a caller often changes the session, most often where the count or a number
+    /// stops it.
+    fn by_hand(&mut self, station: &Station, sr1: bool) -> Option<Call> {
+        let Station { radius, cost, .. } = *station;
+        let stopped = station.count >= station.settings.allowance;
+        let ill = !(radius.is_finite() && radius > 0.0 && cost.is_finite());
+        if self.random.once_in(if stopped { 3 } else { 12 }) {
+            return Some(self.count(station.settings.allowance));
+        }
+        if ill && self.random.once_in(2) {
+            return Some(self.push_put(1.0, 10.0, 0, 1.0, 1.0));
+        }
+        if stopped && self.random.once_in(6) {
+            // No radius, or a phase in which an answer is still taken.
+            let radius = self.random.pick(&[0.0, -0.0, radius]);
+            let phase = self.random.pick(&[0, 1, 1, if sr1 { 1 } else { 2 }]);
+            return Some(self.push_put(radius, cost, phase, 1.0, 1.0));
+        }
+        None
+    }
+
+    fn count(&mut self, allowance: u64) -> Call {
+        let random = &mut self.random;
+        let count = match random.below(16) {
+            0..6 => 0,
+            6..8 => random.below(allowance),
+            8..10 => allowance - 1,
+            10..13 => allowance,
+            13 | 14 => allowance + 1,
+            _ => random.pick(&[1 << 32, 1 << 32 | allowance, 1 << 63, u64::MAX]),
+        };
+        self.words.extend([5, count]);
+        Call::Count(count)
     }
 
     fn put(&mut self, station: &Station, sr1: bool) -> Call {
@@ -193,6 +311,11 @@ impl Maker {
         let cost = near(random, station.cost);
         let (promised, norm) = (near(random, cost - 1.0), near(random, radius));
         let phase = random.pick(&[0, 0, 0, 1, 1, if sr1 { 1 } else { 2 }]);
+        self.push_put(radius, cost, phase, promised, norm)
+    }
+
+    fn push_put(&mut self, radius: f64, cost: f64, phase: u64, promised: f64, norm: f64) -> Call {
+        self.words.push(4);
         self.push_all(&[radius, cost]);
         self.words.push(phase);
         self.push_all(&[promised, norm]);
@@ -207,6 +330,17 @@ impl Maker {
         };
         Call::Put(radius, cost, phase)
     }
+}
+
+/// Whole numbers other than 0, and a definite diagonal.
+fn plain(random: &mut Random, n: usize) -> (Vector, Matrix) {
+    let g = (0..n).map(|_| random.pick(&[-3.0, -2.0, -1.0, 1.0, 2.0, 4.0]));
+    let g = Vector(g.collect());
+    let mut h = vec![0.0; n * n];
+    for i in 0..n {
+        h[i * n + i] = random.between(1, 4) as f64;
+    }
+    (g, Matrix::new(n, h))
 }
 
 fn sound_settings(random: &mut Random, n: usize) -> Settings {

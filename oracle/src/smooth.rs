@@ -1,5 +1,6 @@
 //! Inputs of program `replays`: fits of smooth functions, trial by trial, each some dozen trials long. The costs and the
-//! derivatives are those of the trial points, and some trials are answered with NaN.
+//! derivatives are those of the trial points, and some trials are answered with NaN. In kinds 3 and 4 one to five of these are
+//! allowed in a row; markers stay hidden for a while, and after a refusal by 9 the caller shows them and puts the count to 0.
 
 use crate::random::{made_bits, with_exponent, Random};
 use crate::replay::{self, Call};
@@ -84,29 +85,71 @@ impl Valley {
     }
 }
 
+/// Kinds 3 and 4 have an allowance.
+fn is_hidden(kind: u64) -> bool {
+    kind > 2
+}
+
+/// Kinds 2 and 4 are those of SR1TrustRegion.
+fn is_sr1(kind: u64) -> bool {
+    kind % 2 == 0
+}
+
 fn settings(random: &mut Random, kind: u64) -> Settings {
     let radius = random.pick(&[1.0, 0.5, 2.5, 8.0, 0.01]);
     Settings {
-        kind: if kind == 1 {
-            Kind::TrustRegion {
-                max_radius: random.pick(&[100.0, 4.0, 1000.0]),
-            }
-        } else {
+        kind: if is_sr1(kind) {
             Kind::Sr1 {
                 factor: 1e-8,
                 tol_grad: random.pick(&[1e-3, 1e-9]),
             }
+        } else {
+            Kind::TrustRegion {
+                max_radius: random.pick(&[100.0, 4.0, 1000.0]),
+            }
         },
         kernel: random.pick(&[1, 2, 3]),
         radius,
-        eta: if kind == 1 {
-            random.pick(&[0.125, 0.0, 0.2])
-        } else {
+        eta: if is_sr1(kind) {
             random.pick(&[0.0005, 0.009])
+        } else {
+            random.pick(&[0.125, 0.0, 0.2])
         },
         epsilon: random.pick(&[1e-9, 1e-3]),
         limit: random.pick(&[5, 20, 100]),
-        allowance: LARGEST_ALLOWANCE,
+        allowance: if is_hidden(kind) {
+            random.between(1, 5) as u64
+        } else {
+            LARGEST_ALLOWANCE
+        },
+    }
+}
+
+/// Whether trials are hidden.
+struct Markers {
+    kind: u64,
+    /// So many trials more, in kinds 3 and 4.
+    hidden: u64,
+}
+
+impl Markers {
+    fn are_hidden(&mut self, random: &mut Random) -> bool {
+        if !is_hidden(self.kind) {
+            return random.once_in(8);
+        }
+        if self.hidden == 0 && random.once_in(5) {
+            self.hidden = random.between(1, 8) as u64;
+        }
+        let hidden = self.hidden > 0;
+        self.hidden = self.hidden.saturating_sub(1);
+        hidden
+    }
+
+    /// The caller shows them, which helps every other time.
+    fn show(&mut self, random: &mut Random) {
+        if random.once_in(2) {
+            self.hidden = 0;
+        }
     }
 }
 
@@ -127,7 +170,11 @@ fn script(random: &mut Random, kind: u64) -> Vec<u64> {
     };
     let bits = |list: &[f64]| -> Vec<u64> { list.iter().map(|&x| made_bits(x)).collect() };
     script.extend(bits(&own));
-    script.extend([settings.epsilon.to_bits(), settings.limit, made_bits(cost)]);
+    script.extend([settings.epsilon.to_bits(), settings.limit]);
+    if is_hidden(kind) {
+        script.extend([1, settings.allowance]);
+    }
+    script.push(made_bits(cost));
     script.extend(bits(&point));
     script.extend(bits(&gradient.0));
     script.extend(bits(hessian.entries()));
@@ -136,6 +183,7 @@ fn script(random: &mut Random, kind: u64) -> Vec<u64> {
         return script;
     };
     let told = n as u64;
+    let mut markers = Markers { kind, hidden: 0 };
     for _ in 0..random.between(20, 100) {
         let call = match station.phase {
             Phase::Ready => {
@@ -144,8 +192,9 @@ fn script(random: &mut Random, kind: u64) -> Vec<u64> {
             }
             Phase::Cost { .. } => {
                 let found = valley.cost(&station.trial.0);
-                let found = if random.once_in(8) { f64::NAN } else { found };
-                let gradient = (kind == 2).then(|| valley.gradient(&station.trial.0));
+                let hidden = markers.are_hidden(random);
+                let found = if hidden { f64::NAN } else { found };
+                let gradient = is_sr1(kind).then(|| valley.gradient(&station.trial.0));
                 script.extend([2, told, made_bits(found)]);
                 script.extend(gradient.iter().flat_map(|g| bits(&g.0)));
                 Call::Cost(told, found, gradient)
@@ -163,6 +212,12 @@ fn script(random: &mut Random, kind: u64) -> Vec<u64> {
         };
         let mut lines = Vec::new();
         replay::run(&mut station, call, &Formulas, &mut lines).expect("memory can be written");
+        if lines == b"refused 9\n" {
+            markers.show(random);
+            script.extend([5, 0]);
+            station.count = 0;
+            continue;
+        }
         // A session that refuses here is stuck: the calls come in turn.
         if lines.starts_with(b"refused") || lines.starts_with(b"done") {
             break;
@@ -174,6 +229,20 @@ fn script(random: &mut Random, kind: u64) -> Vec<u64> {
 #[cfg(test)]
 mod tests {
     use super::*;
+    use crate::scripts;
+
+    /// Fits of kinds 3 and 4 are refused by 9 again and again, and go on.
+    #[test]
+    fn fits_go_on_after_a_refusal() {
+        for kind in [3, 4] {
+            let mut out = Vec::new();
+            let tally = scripts::answer(&input(300, 1, kind), &Formulas, &mut out).unwrap();
+            let all = |row| (0..3).map(|kernel| tally.get(row, kernel)).sum::<u64>();
+            assert!(all("refused 9") > 300, "{}", all("refused 9"));
+            assert!(all("accepted") > all("refused 9"));
+            assert_eq!((all("start"), all("refused 2")), (300, 0));
+        }
+    }
 
     #[test]
     fn derivatives_are_those_of_the_cost() {
