@@ -15,6 +15,7 @@ pub mod damaged;
 pub mod decimals;
 pub mod fit;
 pub mod formulas;
+pub mod hidden;
 pub mod input;
 pub mod leaves;
 #[cfg(all(test, feature = "argmin"))]

@@ -1,5 +1,6 @@
 //! Scripts of sessions that chance would hardly make, for program `replays`.
 
+use crate::hidden::marked;
 use crate::input::words;
 
 /// A script of size 2, with the identity for a Hessian and the Cauchy point for a kernel.
@@ -73,7 +74,7 @@ fn dogleg_in_line(kind: u64) -> Script {
     script
 }
 
-/// All of them, each with its length before it.
+/// All of them, each with its length before it: first those of document 01 and of request Two, then those of request Five.
 pub fn input() -> Vec<u8> {
     let least = f64::from_bits(1);
     let scripts = [
@@ -142,8 +143,9 @@ pub fn input() -> Vec<u8> {
         dogleg_in_line(1),
         dogleg_in_line(2),
     ];
+    let hidden = marked().into_iter().map(|marked| marked.words);
     let mut bytes = Vec::new();
-    for Script(script) in scripts {
+    for script in scripts.map(|Script(words)| words).into_iter().chain(hidden) {
         words(&mut bytes, &[script.len() as u64]);
         words(&mut bytes, &script);
     }
