@@ -90,17 +90,28 @@ pub fn report_sessions(count: u64, seed: u64, out: &mut impl Write) -> io::Resul
 
 #[cfg(test)]
 mod tests {
+    use super::*;
+    use crate::{scripts, special};
+
     #[test]
     fn argmin_and_document_agree() {
         let mut out = Vec::new();
-        let agree = super::report(20_000, 2, &mut out).unwrap();
+        let agree = report(20_000, 2, &mut out).unwrap();
         assert!(agree, "{}", String::from_utf8(out).unwrap());
     }
 
     #[test]
     fn sessions_agree() {
         let mut out = Vec::new();
-        let agree = super::report_sessions(3000, 1, &mut out).unwrap();
+        let agree = report_sessions(3000, 1, &mut out).unwrap();
         assert!(agree, "{}", String::from_utf8(out).unwrap());
+    }
+
+    #[test]
+    fn marked_sessions_agree() {
+        let (mut by_argmin, mut by_formulas) = (Vec::new(), Vec::new());
+        scripts::answer(&special::input(), &Argmin, &mut by_argmin).unwrap();
+        scripts::answer(&special::input(), &Formulas, &mut by_formulas).unwrap();
+        assert!(by_argmin == by_formulas);
     }
 }

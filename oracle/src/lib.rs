@@ -26,6 +26,8 @@ pub mod replay;
 pub mod roots;
 pub mod scripts;
 pub mod session;
+#[cfg(test)]
+mod session_slips;
 pub mod sessions;
 pub mod slips;
 pub mod smooth;

@@ -48,6 +48,7 @@ pub(crate) fn answer_by<W: Write>(
 }
 
 /// A call, as its words have it.
+#[derive(Clone)]
 pub enum Call {
     Propose(u64),
     Cost(u64, f64, Option<Vector>),
