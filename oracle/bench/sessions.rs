@@ -168,9 +168,10 @@ fn by_argmin(sr1: bool, kernel: Kernel, model: &Model, start: &Start) -> Vector 
 // ---- ours
 
 // include/mboyaxin.h says what each is given. A list is a pointer and its length.
+const WORDS: usize = 8;
 type List = *const f64;
 type Lent = *mut f64;
-type Words<'a> = &'a mut [u64; 5];
+type Words<'a> = &'a mut [u64; WORDS];
 type Numbers<'a> = &'a mut [f64; 6];
 #[rustfmt::skip]
 unsafe extern "C" {
@@ -188,9 +189,12 @@ unsafe extern "C" {
         step: List, _: usize, trial: List, _: usize, gradient: Lent, _: usize, hessian: Lent, _: usize, scratch: Lent, _: usize) -> u64;
 }
 
-/// The phase's place among the words, and the phase in which derivatives are due.
-const PHASE: usize = 2;
+/// The phase's place among the words (how many there are, kernel, limit, allowance, phase, count, what was said, passes), and
+/// the phase in which derivatives are due.
+const PHASE: usize = 4;
 const AWAITING_DERIVATIVES: u64 = 2;
+/// So many NaN answers in a row are allowed: the most that may be.
+const ALLOWANCE: u64 = 1_000;
 
 /// What a laboratory keeps between fits.
 struct Lists {
@@ -205,7 +209,7 @@ fn done(refusal: u64) {
 
 fn by_rattle(sr1: bool, kernel: Kernel, model: &Model, start: &Start, lists: &mut Lists) -> Vector {
     let n = model.q.size();
-    let words = [kernel as u64 + 1, n as u64, 0, 0, 0];
+    let words = [WORDS as u64, kernel as u64 + 1, n as u64, ALLOWANCE, 0, 0, 0, 0];
     if sr1 {
         by_our_sr1(words, model, start, lists)
     } else {
@@ -214,7 +218,7 @@ fn by_rattle(sr1: bool, kernel: Kernel, model: &Model, start: &Start, lists: &mu
 }
 
 fn by_our_trustregion(
-    mut words: [u64; 5],
+    mut words: [u64; WORDS],
     model: &Model,
     start: &Start,
     lists: &mut Lists,
@@ -250,7 +254,7 @@ fn by_our_trustregion(
     point
 }
 
-fn by_our_sr1(mut words: [u64; 5], model: &Model, start: &Start, lists: &mut Lists) -> Vector {
+fn by_our_sr1(mut words: [u64; WORDS], model: &Model, start: &Start, lists: &mut Lists) -> Vector {
     let Lists {
         step,
         trial,
