@@ -1,6 +1,8 @@
 //! Marked sessions of request Five, for `special`: allowances at their ends, counts that a caller put in, and where 9 stands among
 //! the refusals. Each has beside it, in short, what is to be said, worked out by hand from the request's text.
 
+use crate::random::NANS;
+
 /// A script, and what it says: a word for each call that says something, the number alone where it is refused; behind a bar
 /// the phase at the end, and in kinds 3 and 4 the count.
 pub struct Marked {
@@ -78,11 +80,11 @@ impl Script {
         self.kind % 2 == 0
     }
 
-    /// Its own n, and one that is none.
     fn n(&self) -> u64 {
         self.gradient.len() as u64
     }
 
+    /// One that is wrong.
     fn other_n(&self) -> u64 {
         self.n() + 1
     }
@@ -91,17 +93,17 @@ impl Script {
         self.words.extend(numbers.iter().map(|x| x.to_bits()));
     }
 
-    fn word(mut self, words: &[u64]) -> Script {
+    fn with(mut self, words: &[u64]) -> Script {
         self.words.extend(words);
         self
     }
 
     fn propose(self) -> Script {
         let n = self.n();
-        self.word(&[1, n])
+        self.with(&[1, n])
     }
 
-    /// The cost at the trial. In SR1 sessions these gradients give q another value than 0, whatever was answered before.
+    /// The cost at the trial. In an SR1 session these gradients make q another number than 0 at every step that is proposed here.
     fn tell(self, cost: f64) -> Script {
         let share = if cost == LOWER { 0.125 } else { -0.5 };
         let gradient: Vec<f64> = self.gradient.iter().map(|g| share * g).collect();
@@ -152,21 +154,21 @@ impl Script {
     /// Every call with a wrong n.
     fn wrong(self) -> Script {
         let (n, gradient) = (self.other_n(), self.gradient.clone());
-        self.word(&[1, n])
+        self.with(&[1, n])
             .tell_all(n, f64::NAN, &gradient)
             .renew_all(n, &gradient)
     }
 
     /// Call 5.
     fn count(self, count: u64) -> Script {
-        self.word(&[5, count])
+        self.with(&[5, count])
     }
 
     /// Call 4: ready, with this radius.
     fn ready(mut self, radius: f64) -> Script {
         self.words.push(4);
         self.numbers(&[radius, 10.0]);
-        self.word(&[0, 0, 0])
+        self.with(&[0, 0, 0])
     }
 
     /// Call 4: a cost is awaited, with the model value or the predicted fall in `promised`, and a step norm of 1.
@@ -239,6 +241,17 @@ fn allowances(kind: u64) -> Vec<Marked> {
             .hidden()
             .propose()
             .says("start proposed rejected proposed rejected 9 | ready 1000"),
+        // Any NaN is one.
+        NANS[1..6]
+            .iter()
+            .fold(allowing(kind, 5), |script, &bits| {
+                script.propose().tell(f64::from_bits(bits))
+            })
+            .propose()
+            .says(
+                "start proposed rejected proposed rejected proposed rejected proposed rejected \
+                 proposed rejected 9 | ready 5",
+            ),
         // None is named: a thousand.
         of(kind, &[0])
             .script()
@@ -624,10 +637,9 @@ fn kernels(kind: u64) -> Vec<Marked> {
 fn bad_words(kind: u64) -> Vec<Marked> {
     let far = (1 << 32) + 1;
     let ends = |further: &[u64]| {
-        let whole = of(kind, further).script();
-        let length = whole.words.len() - 4;
-        let mut script = whole;
-        script.words.truncate(length);
+        let mut script = of(kind, further).script();
+        // Cost, point, gradient and Hessian are a word each.
+        script.words.truncate(script.words.len() - 4);
         script
     };
     let no_kernel = Start {
@@ -647,9 +659,9 @@ fn bad_words(kind: u64) -> Vec<Marked> {
         // A call without its count, and one that there is not.
         allowing(kind, 1)
             .hidden()
-            .word(&[5])
+            .with(&[5])
             .says("start proposed rejected bad"),
-        allowing(kind, 1).word(&[6, 0]).says("start bad"),
+        allowing(kind, 1).with(&[6, 0]).says("start bad"),
         // No kind: the next one, and one that is this kind in its low half alone.
         of(kind + 2, &[1, 1]).script().propose().says("bad"),
         of(kind + (1 << 32), &[1, 1]).script().propose().says("bad"),
@@ -657,9 +669,9 @@ fn bad_words(kind: u64) -> Vec<Marked> {
     if kind == 4 {
         all.extend([
             // As in kind 2: no derivatives, and no phase that awaits them.
-            allowing(kind, 1).word(&[3, 1, 0, 0]).says("start bad"),
+            allowing(kind, 1).with(&[3, 1, 0, 0]).says("start bad"),
             allowing(kind, 1)
-                .word(&[4, 0, 0, 2, 0, 0])
+                .with(&[4, 0, 0, 2, 0, 0])
                 .says("start bad"),
         ]);
     }

@@ -245,7 +245,7 @@ impl Maker {
         trial_cost(&mut self.random, station)
     }
 
-    /// Of kinds 3 and 4 mostly one that updates the Hessian without a refusal.
+    /// In kinds 3 and 4 mostly one that updates the Hessian without a refusal.
     fn trial_gradient(&mut self, station: &Station) -> Vector {
         if self.hidden == 0 || self.random.once_in(4) {
             return trial_gradient(&mut self.random, station);
