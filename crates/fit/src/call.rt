@@ -26,6 +26,7 @@ pub(crate) fn next(room: &mut [u8], n: usize, before: Standing, hessian: &mut [f
                 2 => cost(room, n, at, hessian),
                 3 => derivatives(room, n, at, hessian),
                 4 => put(room, at),
+                5 => put_count(room, at),
                 _ => at,
             }
         }
@@ -126,4 +127,11 @@ fn put(room: &mut [u8], at: Standing) -> Standing {
     };
     let after = session::changed(at.came, to);
     standing::told(after, at.lists, rest)
+}
+
+// 5 count
+fn put_count(room: &mut [u8], at: Standing) -> Standing {
+    let count = script::word(room, at.script);
+    let after = session::counted(at.came, count.word);
+    standing::told(after, at.lists, count.script)
 }

@@ -9,7 +9,7 @@ pub(crate) enum Awaits {
 }
 
 // Of a start, the cost and the radius. Of a trial, whether it was accepted, the cost that it was answered, the ratio, and
-// the radius afterwards. Of the end, the radius and the cost.
+// the radius afterwards. Of the end, the radius, the cost, what is awaited, and the count of hidden trials in a row.
 pub(crate) enum Event {
     Started(f64, f64),
     NotStarted(Refusal),
@@ -19,6 +19,6 @@ pub(crate) enum Event {
     Judged(bool, f64, f64, f64),
     Taken,
     Changed,
-    Ended(f64, f64, Awaits),
+    Ended(f64, f64, Awaits, u64),
     Bad,
 }

@@ -2,6 +2,7 @@
 // call's lines are written in their order.
 mod call;
 mod event;
+mod further;
 mod lines;
 mod opening;
 mod script;
@@ -75,7 +76,16 @@ fn begun(
     output: Output,
 ) -> Ran {
     let at = opening::lists(room, opening, hessian);
-    calls(manner, room, page, opening.size, at, hessian, output)
+    calls(
+        manner,
+        room,
+        page,
+        opening.size,
+        opening.tells_count,
+        at,
+        hessian,
+        output,
+    )
 }
 
 // What happened last is written, and the next call made; after the last of all, none. A proved loop has
@@ -86,6 +96,7 @@ fn calls(
     room: &mut [u8],
     page: &mut [u8],
     n: usize,
+    tells_count: bool,
     begun: Standing,
     hessian: &mut [f64],
     output: Output,
@@ -95,7 +106,7 @@ fn calls(
     let mut trials = 0;
     let mut left = u64::MAX;
     while left > 0 {
-        put = written(manner, page, put, trials, n, at, hessian);
+        put = written(manner, page, put, trials, n, tells_count, at, hessian);
         trials = session::trials(trials, at.came);
         left = fewer(left, session::is_last(at.came));
         at = call::next(room, n, at, hessian);
@@ -126,13 +137,14 @@ fn written(
     output: Output,
     trials: u64,
     n: usize,
+    tells_count: bool,
     at: Standing,
     hessian: &[f64],
 ) -> Output {
     let came = at.came;
     let event = came.event;
     match manner {
-        Manner::Lines => lines::event(page, output, event, n, at.lists, hessian),
+        Manner::Lines => lines::event(page, output, event, n, tells_count, at.lists, hessian),
         Manner::Table => table::event(page, output, trials, event, n, at.lists),
     }
 }

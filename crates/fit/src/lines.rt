@@ -11,6 +11,7 @@ pub(crate) fn event(
     output: Output,
     event: Event,
     n: usize,
+    tells_count: bool,
     lists: Lists,
     hessian: &[f64],
 ) -> Output {
@@ -19,9 +20,10 @@ pub(crate) fn event(
         Event::Refused(r) => refused(page, output, r),
         Event::Proposed(passes) => proposed(page, output, passes, n, lists),
         Event::Judged(accepted, _, ratio, radius) => judged(page, output, accepted, ratio, radius),
-        Event::Ended(radius, cost, awaits) => {
+        Event::Ended(radius, cost, awaits, count) => {
             let kept = end(page, output, awaits, radius, cost);
-            ended(page, kept, n, lists, hessian)
+            let listed = ended(page, kept, n, lists, hessian);
+            counted(page, listed, tells_count, count)
         }
         _ => plain(page, output, event),
     }
@@ -92,6 +94,16 @@ fn ended(page: &mut [u8], output: Output, n: usize, lists: Lists, hessian: &[f64
     let second = numbers(page, first, b"\ngradient", standing::front(&gradient, n));
     let third = numbers(page, second, b"\nhessian", hessian);
     stream::put_line_end(page, third)
+}
+
+// The count of hidden trials in a row, where the end tells it.
+fn counted(page: &mut [u8], output: Output, tells_count: bool, count: u64) -> Output {
+    if tells_count {
+        let said = stream::put_text(page, output, b"count ");
+        let put = stream::put_whole(page, said, count);
+        return stream::put_line_end(page, put);
+    }
+    output
 }
 
 // A number behind its name.

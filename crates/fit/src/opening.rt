@@ -1,4 +1,7 @@
-// A session's start, as its words have it: kind, n, kernel, the settings' numbers, limit, cost, point, gradient, Hessian.
+// A session's start, as its words have it: kind, n, kernel, the settings' numbers, limit, further settings, cost, point,
+// gradient, Hessian. Kinds 1 and 3 are TrustRegion, 2 and 4 SR1TrustRegion; 3 and 4 alone have further settings.
+use crate::further;
+use crate::further::Further;
 use crate::script;
 use crate::script::Script;
 use crate::session::After;
@@ -9,9 +12,10 @@ use crate::standing::Standing;
 use crate::trust_region;
 ghost use Prim.Native.Nat.{_≤_};
 
-// The size, 0 where there is none, and what the start comes to if its lists are there.
+// The size, 0 where there is none, whether the end tells the count, and what the start comes to if its lists are there.
 pub(crate) struct Opening {
     pub(crate) size: usize,
+    pub(crate) tells_count: bool,
     pub(crate) begun: After,
     pub(crate) script: Script,
 }
@@ -35,6 +39,7 @@ fn of(kind: u64, n: u64, start: Beginning) -> Opening
     let begun = start.begun;
     Opening {
         size,
+        tells_count: further::are_told(kind),
         begun,
         script,
     }
@@ -55,24 +60,36 @@ fn start(room: &mut [u8], kind: u64, script: Script) -> Beginning {
         kernel.script,
         standing::front_mut(&mut numbers, count),
     );
-    let rest = limit_and_cost(room, filled);
-    let begun = begin(kind, kernel.word, numbers, rest.limit, rest.cost);
+    let rest = limit_to_cost(room, kind, filled);
+    let begun = begin(
+        kind,
+        kernel.word,
+        numbers,
+        rest.limit,
+        rest.further,
+        rest.cost,
+    );
     let script = rest.script;
     Beginning { begun, script }
 }
 
+// What stands behind the settings' numbers.
 struct Rest {
     limit: u64,
+    further: Further,
     cost: f64,
     script: Script,
 }
 
-fn limit_and_cost(room: &mut [u8], script: Script) -> Rest {
+fn limit_to_cost(room: &mut [u8], kind: u64, script: Script) -> Rest {
     let limit = script::word(room, script);
-    let cost = script::number(room, limit.script);
+    let told = further::read(room, kind, limit.script);
+    let cost = script::number(room, told.script);
+    let further = told.further;
     let script = cost.script;
     Rest {
         limit: limit.word,
+        further,
         cost: cost.number,
         script,
     }
@@ -80,7 +97,7 @@ fn limit_and_cost(room: &mut [u8], script: Script) -> Rest {
 
 // How many of a session's settings are numbers.
 fn settings(kind: u64) -> usize {
-    if kind == 1 {
+    if is_trust_region(kind) {
         return 4;
     }
     5
@@ -99,17 +116,29 @@ fn is_known(kind: u64, n: usize) -> bool {
     if n == 0 {
         return false;
     }
-    if kind == 1 {
-        return true;
+    if kind == 0 {
+        return false;
     }
-    kind == 2
+    kind <= 4
 }
 
-fn begin(kind: u64, kernel: u64, numbers: [f64; 5], limit: u64, cost: f64) -> After {
-    if kind == 1 {
-        return trust_region::begin(kernel, numbers, limit, cost);
+// Of the kinds that there are.
+fn is_trust_region(kind: u64) -> bool {
+    kind % 2 == 1
+}
+
+fn begin(
+    kind: u64,
+    kernel: u64,
+    numbers: [f64; 5],
+    limit: u64,
+    further: Further,
+    cost: f64,
+) -> After {
+    if is_trust_region(kind) {
+        return trust_region::begin(kernel, numbers, limit, further, cost);
     }
-    sr1_session::begin(kernel, numbers, limit, cost)
+    sr1_session::begin(kernel, numbers, limit, further, cost)
 }
 
 // The lists, each at its own length.

@@ -122,6 +122,14 @@ fn phase_of(to: Change) -> Phase {
     }
 }
 
+// The last phase that a kind of session has.
+fn last_phase(session: Session) -> u64 {
+    match session {
+        Session::TrustRegion(_) => 2,
+        Session::Sr1(_) => 1,
+    }
+}
+
 // A change is none where its kind of session has no phase of that number.
 fn event_of(to: Change, last: u64) -> Event {
     if last < to.phase {
@@ -130,19 +138,28 @@ fn event_of(to: Change, last: u64) -> Event {
     Event::Changed
 }
 
-// As a caller can change what is its own.
+// As a caller can change what is its own. The count stays.
 pub(crate) fn changed(before: After, to: Change) -> After {
     let session = before.session;
-    let phase = phase_of(to);
+    let was = state_of(session);
+    let state = state::moved(was, to.radius, to.cost, phase_of(to), was.count);
+    in_state(session, state, event_of(to, last_phase(session)))
+}
+
+// The count by itself.
+pub(crate) fn counted(before: After, count: u64) -> After {
+    let session = before.session;
+    let was = state_of(session);
+    let phase = was.phase;
+    let state = state::moved(was, was.radius, was.cost, phase, count);
+    in_state(session, state, Event::Changed)
+}
+
+// The session in another state, and what happened.
+fn in_state(session: Session, state: State, event: Event) -> After {
     match session {
-        Session::TrustRegion(s) => {
-            let state = state::moved(s.state, to.radius, to.cost, phase);
-            trust_region::happened(s.settings, state, event_of(to, 2))
-        }
-        Session::Sr1(s) => {
-            let state = state::moved(s.state, to.radius, to.cost, phase);
-            sr1_session::happened(s.settings, state, event_of(to, 1))
-        }
+        Session::TrustRegion(s) => trust_region::happened(s.settings, state, event),
+        Session::Sr1(s) => sr1_session::happened(s.settings, state, event),
     }
 }
 
@@ -153,7 +170,7 @@ fn ending(state: State) -> Event {
         Phase::AwaitingCost(promise, norm) => Awaits::Cost(promise, norm),
         Phase::AwaitingDerivatives => Awaits::Derivatives,
     };
-    Event::Ended(state.radius, state.cost, awaits)
+    Event::Ended(state.radius, state.cost, awaits, state.count)
 }
 
 pub(crate) fn ended(before: After) -> After {
@@ -169,7 +186,7 @@ pub(crate) fn is_last(came: After) -> bool {
     let event = came.event;
     match event {
         Event::NotStarted(_) => true,
-        Event::Ended(_, _, _) => true,
+        Event::Ended(_, _, _, _) => true,
         Event::Bad => true,
         _ => false,
     }

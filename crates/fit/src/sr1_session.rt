@@ -1,5 +1,6 @@
 // An SR1TrustRegion session's own calls, and what happened in each.
 use crate::event::Event;
+use crate::further::Further;
 use crate::session;
 use crate::session::After as Happened;
 use crate::session::Answer;
@@ -17,9 +18,16 @@ use sr1::settings::Settings;
 use sr1::sr1_trustregion;
 
 // The numbers are radius, eta, factor, tol_grad and epsilon. Where a start is refused, no call is made of what stands for it.
-pub(crate) fn begin(kernel: u64, numbers: [f64; 5], limit: u64, cost: f64) -> Happened {
+pub(crate) fn begin(
+    kernel: u64,
+    numbers: [f64; 5],
+    limit: u64,
+    further: Further,
+    cost: f64,
+) -> Happened {
     let choice = Choice::of(kernel, numbers[4], limit);
-    let settings = Settings::of(choice, numbers[0], numbers[1], numbers[2], numbers[3]);
+    let told = Settings::of(choice, numbers[0], numbers[1], numbers[2], numbers[3]);
+    let settings = told.with_allowance(further.allowance);
     let start = sr1_trustregion::start(settings, cost);
     match start {
         Start::Refused(r) => {

@@ -1,5 +1,5 @@
 // What happened, for people: a row for each trial that was answered, its numbers in decimal, the
-// shortest that read back as the same f64. `count` trials were answered before.
+// shortest that read back as the same f64. `trials` were answered before.
 use crate::event::Awaits;
 use crate::event::Event;
 use crate::standing;
@@ -11,7 +11,7 @@ ghost use Prim.Native.Nat.{_≤_};
 pub(crate) fn event(
     page: &mut [u8],
     output: Output,
-    count: u64,
+    trials: u64,
     event: Event,
     n: usize,
     lists: Lists,
@@ -21,10 +21,10 @@ pub(crate) fn event(
         Event::NotStarted(r) => refused(page, output, b"The start is refused (", r),
         Event::Refused(r) => refused(page, output, b"       a call is refused (", r),
         Event::Judged(accepted, cost, ratio, radius) => {
-            let told = trial(page, output, count, cost, ratio);
+            let told = trial(page, output, trials, cost, ratio);
             verdict(page, told, accepted, cost, radius)
         }
-        Event::Ended(radius, cost, awaits) => {
+        Event::Ended(radius, cost, awaits, _) => {
             let told = end(page, output, cost, radius, awaits);
             ended(page, told, n, lists)
         }
@@ -69,8 +69,8 @@ fn kept(page: &mut [u8], output: Output, text: &[u8], cost: f64, radius: f64) ->
     number(page, told, b", radius ", radius)
 }
 
-fn trial(page: &mut [u8], output: Output, count: u64, cost: f64, ratio: f64) -> Output {
-    let counted = numbered(page, output, std::num::wrapping_add_u64(count, 1));
+fn trial(page: &mut [u8], output: Output, trials: u64, cost: f64, ratio: f64) -> Output {
+    let counted = numbered(page, output, std::num::wrapping_add_u64(trials, 1));
     let first = column(page, counted, cost);
     column(page, first, ratio)
 }
@@ -141,14 +141,14 @@ fn refused(page: &mut [u8], output: Output, text: &[u8], r: Refusal) -> Output {
     reason(page, closed, r)
 }
 
-// Document 01's reasons, in words.
+// Document 01's reasons, and those of later requests, in words.
 fn reason(page: &mut [u8], output: Output, r: Refusal) -> Output {
     match r {
         Refusal::Size => stream::put_text(page, output, b"n or a length is wrong\n"),
         Refusal::Setting => stream::put_text(
             page,
             output,
-            b"a setting, the radius or the cost of the session is out of range\n",
+            b"a setting, or the radius, the cost or the count of the session, is out of range\n",
         ),
         Refusal::Turn => stream::put_text(page, output, b"it is out of turn\n"),
         Refusal::Entry => stream::put_text(
@@ -171,6 +171,11 @@ fn reason(page: &mut [u8], output: Output, r: Refusal) -> Output {
             page,
             output,
             b"a number of the result would not be finite\n",
+        ),
+        Refusal::Hidden => stream::put_text(
+            page,
+            output,
+            b"as many trials as are allowed in a row were hidden: show the markers, then set the count to 0\n",
         ),
     }
 }

@@ -1,5 +1,6 @@
 // A TrustRegion session's own calls, and what happened in each.
 use crate::event::Event;
+use crate::further::Further;
 use crate::script;
 use crate::script::Got;
 use crate::script::Script;
@@ -20,10 +21,17 @@ use trustregion::settings::Settings;
 use trustregion::trustregion_method;
 
 // The numbers are radius, max_radius, eta and epsilon. Where a start is refused, no call is made of what stands for it.
-pub(crate) fn begin(kernel: u64, numbers: [f64; 5], limit: u64, cost: f64) -> Happened {
+pub(crate) fn begin(
+    kernel: u64,
+    numbers: [f64; 5],
+    limit: u64,
+    further: Further,
+    cost: f64,
+) -> Happened {
     let radius = numbers[0];
     let choice = Choice::of(kernel, numbers[3], limit);
-    let settings = Settings::of(choice, radius, numbers[1], numbers[2]);
+    let told = Settings::of(choice, radius, numbers[1], numbers[2]);
+    let settings = told.with_allowance(further.allowance);
     let start = trustregion_method::start(settings, cost);
     match start {
         Start::Started(s) => happened(settings, s.state, Event::Started(cost, radius)),

@@ -6,11 +6,11 @@ use Rattle.fit.proofs.calls.Statement.{statement}
 use Rattle.fit.proofs.calls.Tie as tie
 
 abbrev Inv-loop : tie.InvT-loop
-Inv-loop manner room₀ page₀ n hessian₀ at₀ put₀ trials₀ left₀ room page hessian at put trials left =
+Inv-loop manner room₀ page₀ n tells-count hessian₀ at₀ put₀ trials₀ left₀ room page hessian at put trials left =
     (length room ≡ length room₀) × (length page ≡ length page₀) × (length hessian ≡ length hessian₀)
 
 abbrev μ-loop : tie.MeasureT-loop
-μ-loop manner room₀ page₀ n hessian₀ at₀ put₀ trials₀ left₀ room page hessian at put trials left = left
+μ-loop manner room₀ page₀ n tells-count hessian₀ at₀ put₀ trials₀ left₀ room page hessian at put trials left = left
 
 loop-again : tie.Need-loop-again Inv-loop μ-loop
 loop-again c =
