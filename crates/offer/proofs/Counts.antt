@@ -4,7 +4,7 @@ use mathlib.Core.Bool.{Bool, true, false}
 use Prim.Native.Nat.{ℕ, _+_, _≤_}
 use native.Mathlib.Omega.{arith}
 use lib.Dec.{eqb, leb}
-use borrow.Author.Tests.{leb-true, eqb-false, le-leb, ne-eqb}
+use borrow.Author.Tests.{leb-true, eqb-false, le-leb}
 use Rattle.vectors.proofs.Sizes.{both}
 use Rattle.offer.specs.State.{allowable}
 

@@ -2,15 +2,15 @@
 use mathlib.Core.Path.{_≡_, refl, sym, _∙_, ap, subst}
 use mathlib.Core.Bool.{Bool, true, false, not, cond}
 use mathlib.Core.List.{List, [], _∷_}
-use Prim.Native.Nat.{ℕ, suc, _+_}
+use Prim.Native.Nat.{ℕ, _+_}
 use native.Mathlib.Omega.{arith}
-use lib.Dec.{T, leb, eqb}
+use lib.Dec.{T, leb}
 use lib.ListN.{length}
 use lib.Ieee.{Float, eq, isNan}
 use lib.Ieee.Bits.{is-true}
 use borrow.Author.Tests.{le-leb, eq-eqb}
 use Rattle.float.specs.Constants.{nought}
-use Rattle.vectors.specs.Refusal.{Answer, refused, given, Check, unless, then}
+use Rattle.vectors.specs.Refusal.{Answer, refused, given, unless, then}
 use Rattle.vectors.specs.declared.refusal.Refusal.the-variants.{Hidden}
 use Rattle.kernels.specs.Kernel.{Kernel, Proper}
 use Rattle.offer.specs.Offer.{Offer, offer, step-checks}
@@ -20,10 +20,10 @@ use Rattle.offer.specs.declared.state.Phase.{Phase}
 use Rattle.offer.specs.declared.state.Phase.the-variants.{Ready, AwaitingCost, AwaitingDerivatives}
 use Rattle.offer.proofs.Checks.{None, unless-elim, unless-none, not-not, false-is}
 use Rattle.trustregion.specs.Session.{turned, Proposal, proposal}
-use Rattle.trustregion.specs.Run.{Station, propose, Call, proposed, judged, renewed, Reply, Entry, on-proposal, proposal-at, respond, opens-trial, took-cost, took-nan, count-after, add-trial, trials, seen}
-use Rattle.trustregion.specs.Demand3.{Stopped, Too-hidden}
+use Rattle.trustregion.specs.Run.{Station, propose, Call, proposed, judged, renewed, Reply, on-proposal, proposal-at, respond, opens-trial, took-nan, count-after, add-trial, trials, seen}
+use Rattle.trustregion.specs.Demand3.{Too-hidden}
 use Rattle.trustregion.specs.declared.settings.Settings.{Settings}
-use Rattle.trustregion.proofs.Answers.{joined, lent-checks, follows, same-checks}
+use Rattle.trustregion.proofs.Answers.{lent-checks, follows, same-checks}
 use Rattle.trustregion.proofs.Alike.{Alike, ready-is, same-phase, alike-trans, alike-refl, back, back-alike, refused-keeps, nan-closes, proposal-opens}
 use Rattle.trustregion.proofs.Counts.{counts}
 use Rattle.trustregion.proofs.Trials.{Turns, turns}
