@@ -387,6 +387,31 @@ fn sr1_with_a_nan_gradient() {
     assert!(run[1..].iter().all(|(state, _)| point(state) == first));
 }
 
+/// `TrustRegion` proposes the same step again and again, as long as it is asked.
+#[test]
+fn a_marker_hidden_for_good() {
+    let solver = TrustRegion::new(own::CauchyPoint::new());
+    let run = iterations(solver, start(20.0), &[NAN; 5000], G);
+    for (state, told) in &run {
+        assert_eq!((point(state), radius(told)), (&[0.0; 2][..], 1.0));
+        assert_eq!(state.get_cost(), 20.0);
+    }
+}
+
+/// `SR1TrustRegion` halves its radius with each, down to 0. There it divides by zero, and no entry of its Hessian stays finite.
+#[test]
+fn sr1_with_a_marker_hidden_for_good() {
+    let solver = SR1TrustRegion::new(own::CauchyPoint::new());
+    let run = iterations(solver, start(20.0), &[NAN; 1100], [1.0; 2]);
+    let radii: Vec<_> = run.iter().map(|(_, told)| radius(told)).collect();
+    let halved = (1..=1074).map(|k| 0.5f64.powi(k));
+    assert!(halved.eq(radii[..1074].iter().copied()));
+    assert!(radii[1074..].iter().all(|&r| r == 0.0));
+    assert!(run.iter().all(|(state, _)| point(state) == [0.0; 2]));
+    let hessian = run[1099].0.get_hessian().unwrap().entries();
+    assert!(!hessian.iter().any(|entry| entry.is_finite()));
+}
+
 /// A singular H is an error of the Dogleg's; the problem went with it, and the next iteration has none to take.
 #[test]
 fn an_iteration_after_an_error() {
