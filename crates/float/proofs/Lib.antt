@@ -8,3 +8,4 @@ pub mod Values
 pub mod Signs
 pub mod Quarter
 pub mod Patterns
+pub mod Operands

@@ -25,6 +25,7 @@ use Rattle.kernels.specs.declared.kernel.Stepped.{Stepped}
 use Rattle.kernels.specs.declared.kernel.Stepped.the-variants.{In, Refused}
 use Rattle.kernels.specs.declared.workspace.Op.the-variants.{Same}
 use Rattle.kernels.proofs.Ops.{each-same}
+use Rattle.vectors.proofs.Norms.{norm-tells}
 use Rattle.vectors.proofs.Slots.{length-slot}
 use Rattle.vectors.proofs.Sizes.{each-holds, square-by}
 use Rattle.kernels.proofs.Rows.{low-room}
@@ -142,20 +143,20 @@ pub laid-same : (n : ℕ) (a b : Answer Made) (r : Stepped) (w₁ w w′ : List 
 laid-same n a b r w₁ w w′ p e l h = record { says = h .says ∙ ap stepped e; lays = h .lays ∙ ap (λ (x : Answer Made). laid-out x w₁) e ∙ laid-length n b w₁ w p l }
 
 -- `settle`, by the test of the step
--- u and v are the step, read twice: once for its norm
-module _ (n k passes : ℕ) (w u v : List Float) (long : Float) (first : u ≡ slot w n k) (again : v ≡ slot w n k) (is : long ≡ norm u) where
+-- u is the step: its norm alone tells whether it is sound
+module _ (n k passes : ℕ) (w u : List Float) (long : Float) (is-u : u ≡ slot w n k) (is : long ≡ norm u) where
   norm-known : long ≡ norm (slot w n k)
-  norm-known = is ∙ ap norm first
+  norm-known = is ∙ ap norm is-u
 
-  known : (b : Bool) → (all-finite v && finite long) ≡ b → sound-step (slot w n k) ≡ b
+  known : (b : Bool) → finite long ≡ b → sound-step (slot w n k) ≡ b
   unfolding sound-step
-  known b t = rw (← norm-known, ← again) t
+  known b t = sym (norm-tells (slot w n k)) ∙ sym (ap finite norm-known) ∙ t
 
-  pub unsettled : (w′ : List Float) → (all-finite v && finite long) ≡ false → w′ ≡ zeros (length w) → Laid (handed-out (made passes (slot w n k))) (Refused Range) w w′
+  pub unsettled : (w′ : List Float) → finite long ≡ false → w′ ≡ zeros (length w) → Laid (handed-out (made passes (slot w n k))) (Refused Range) w w′
   unfolding handed-out
   unsettled w′ t z = rw (known false t) (record { says = refl; lays = z })
 
-  pub settled : (w₁ ys : List Float) → (all-finite v && finite long) ≡ true → k * n + n ≤ length w → Puts w n 0 (each n Same (slot w n k) (slot w n k)) w₁ → length w₁ ≡ length w
+  pub settled : (w₁ ys : List Float) → finite long ≡ true → k * n + n ≤ length w → Puts w n 0 (each n Same (slot w n k) (slot w n k)) w₁ → length w₁ ≡ length w
       → ys ≡ zeros (length (midOf n (length w₁ - n) w₁)) → Laid (handed-out (made passes (slot w n k))) (In passes long) w (putMid n (length w₁ - n) w₁ ys)
   unfolding handed-out slot
   settled w₁ ys t h p l z =

@@ -12,8 +12,7 @@ ghost use Prim.Native.Nat.{_+_, _*_, _≤_};
 ghost use lib.Dec.{eqb};
 ghost use lib.ListN.{length, drop};
 ghost use lib.Ieee.{Float};
-ghost use Rattle.float.specs.Numbers.{finite};
-ghost use Rattle.vectors.specs.Vector.{zeros, all-finite};
+ghost use Rattle.vectors.specs.Vector.{zeros};
 ghost use Rattle.vectors.specs.Slots.{slot};
 ghost use Rattle.vectors.specs.Refusal.{all-hold, size, room, judged};
 ghost use Rattle.kernels.specs.Kernel as Kernel;
@@ -33,16 +32,6 @@ pub fn positive(x: f64) -> bool
         return false;
     }
     0.0 < x
-}
-
-// Every number of a step is finite, and so is its norm.
-fn sound_step(v: &[f64], norm: f64) -> bool
-    ensures { λ r. ⌜ r ≡ (all-finite (now (v .entry)) && finite norm) ⌝ }
-{
-    if !vector::all_finite(v) {
-        return false;
-    }
-    float::finite(norm)
 }
 
 // The lengths of a kernel's matrix, gradient, step and scratch.
@@ -101,8 +90,9 @@ pub(crate) fn settle(n: usize, w: &mut [f64], k: usize, passes: u64) -> Stepped
     requires { ⌜ k * n + n ≤ length (now w) ⌝ }
     ensures { λ r. ⌜ Laid (handed-out (made passes (slot (now (w .entry)) n k))) r (now (w .entry)) (now (w .exit)) ⌝ }
 {
+    // where a number of the step is not finite, its norm is not
     let norm = vector::norm_any(workspace::part(n, w, k));
-    if !sound_step(workspace::part(n, w, k), norm) {
+    if !float::finite(norm) {
         vector::clear(w);
         return Stepped::Refused(Refusal::Range);
     }

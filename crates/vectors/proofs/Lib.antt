@@ -3,3 +3,4 @@ pub mod Slots
 pub mod Sizes
 pub mod Ends
 pub mod Largest
+pub mod Norms
