@@ -6,13 +6,10 @@ use lib.ListN.{length}
 use lib.Ieee.{Float}
 use Rattle.vectors.specs.Vector.{norm, weighted, scale}
 use Rattle.vectors.specs.Slots.{slot, Puts}
-use Rattle.kernels.specs.Workspace.{each}
 use Rattle.kernels.specs.Kernel.{made, handed-out, Proper, Laid}
 use Rattle.kernels.specs.CauchyPoint.{factor, cauchy-point}
 use Rattle.kernels.specs.declared.kernel.Stepped.{Stepped}
-use Rattle.kernels.specs.declared.workspace.Op.the-variants.{Times}
 use Rattle.vectors.proofs.Vectors.{length-scale}
-use Rattle.kernels.proofs.Ops.{each-times}
 use Rattle.kernels.proofs.Kernels.{handed-proper, laid-same}
 
 pub cauchy-proper : (n : ℕ) (radius : Float) (g H : List Float) → Proper n (cauchy-point n radius g H)
@@ -20,11 +17,10 @@ unfolding cauchy-point
 cauchy-proper n radius g H = let t = factor radius (weighted n g H g) (norm g) in handed-proper n (made 0 (scale n g t)) (length-scale n g t)
 
 -- `lay`, from what it read and wrote
-pub cauchy-laid : (n : ℕ) (radius curvature norm-g t : Float) (g H w w₁ w₂ w₃ : List Float) (r : Stepped)
+pub cauchy-laid : (n : ℕ) (radius curvature norm-g t : Float) (g H w w₁ w₂ : List Float) (r : Stepped)
     → curvature ≡ weighted n g H g → norm-g ≡ norm g → t ≡ factor radius curvature norm-g
-    → Puts w n 0 g w₁ → Puts w₁ n 0 (each n (Times t) (slot w₁ n 0) (slot w₁ n 0)) w₂ → length w₂ ≡ length w
-    → Laid (handed-out (made 0 (slot w₂ n 0))) r w₂ w₃ → Laid (cauchy-point n radius g H) r w w₃
+    → Puts w n 0 (scale n g t) w₁ → length w₁ ≡ length w → Laid (handed-out (made 0 (slot w₁ n 0))) r w₁ w₂ → Laid (cauchy-point n radius g H) r w w₂
 unfolding cauchy-point
-cauchy-laid n radius curvature norm-g t g H w w₁ w₂ w₃ r a b e p q l h =
-    let made-of : slot w₂ n 0 ≡ scale n g (factor radius (weighted n g H g) (norm g)) = q 0 ∙ each-times n (slot w₁ n 0) (slot w₁ n 0) t ∙ rw (p 0, e, a, b) in
-    laid-same n (handed-out (made 0 (slot w₂ n 0))) (cauchy-point n radius g H) r w₂ w w₃ (cauchy-proper n radius g H) (ap (λ (v : List Float). handed-out (made 0 v)) made-of) l h
+cauchy-laid n radius curvature norm-g t g H w w₁ w₂ r a b e p l h =
+    let made-of : slot w₁ n 0 ≡ scale n g (factor radius (weighted n g H g) (norm g)) = p 0 ∙ rw (e, a, b) in
+    laid-same n (handed-out (made 0 (slot w₁ n 0))) (cauchy-point n radius g H) r w₁ w w₂ (cauchy-proper n radius g H) (ap (λ (v : List Float). handed-out (made 0 v)) made-of) l h

@@ -1,26 +1,24 @@
 -- Laws of a kernel's choice, and of the sessions' door. Assumes nothing.
 use mathlib.Core.Path.{_≡_, refl, sym, _∙_}
-use mathlib.Core.Bool.{Bool, true, false, cond, not, _&&_}
+use mathlib.Core.Bool.{Bool, true, false, cond}
 use mathlib.Core.List.{List, [], _∷_}
 use Prim.Native.Nat.{ℕ, _*_}
 use lib.Dec.{eqb}
 use lib.ListN.{length}
 use lib.Ieee.{Float}
 use borrow.Author.Tests.{eq-eqb, ne-eqb}
-use Rattle.vectors.specs.Vector.{all-finite}
-use Rattle.vectors.specs.Refusal.{Check, _if_, judged, all-hold, size, sized, room}
-use Rattle.kernels.specs.Kernel.{positive, Proper, Laid, kernel-checks}
+use Rattle.vectors.specs.Refusal.{all-hold, size, sized, room}
+use Rattle.kernels.specs.Kernel.{Proper, Laid}
 use Rattle.kernels.specs.CauchyPoint.{cauchy-point}
 use Rattle.kernels.specs.Dogleg.{dogleg}
 use Rattle.kernels.specs.Steihaug.{steihaug}
-use Rattle.kernels.specs.Choice.{known, ranges, in-range, asked, kernel, door}
-use Rattle.vectors.specs.declared.refusal.Refusal.{Refusal}
-use Rattle.vectors.specs.declared.refusal.Refusal.the-variants.{Size, Setting, Entry}
-use Rattle.vectors.specs.declared.refusal.Verdict.the-variants.{Passed}
+use Rattle.kernels.specs.Choice.{known, ranges, in-range, kernel, door}
+use Rattle.vectors.specs.declared.refusal.Refusal.the-variants.{Size, Setting}
+use Rattle.kernels.specs.declared.kernel.Stepped.{Stepped}
 use Rattle.kernels.specs.declared.kernel.Stepped.the-variants.{Refused}
 use Rattle.kernels.specs.declared.choice.Choice.{Choice}
-use Rattle.vectors.proofs.Sizes.{both, each-holds, size-test}
-use Rattle.kernels.proofs.Kernels.{Lent, first-passed}
+use Rattle.vectors.proofs.Sizes.{each-holds, size-test}
+use Rattle.kernels.proofs.Kernels.{Lent}
 use Rattle.kernels.proofs.CauchyPoints.{cauchy-proper}
 use Rattle.kernels.proofs.Doglegs.{dogleg-proper}
 use Rattle.kernels.proofs.Passes.{steihaug-proper}
@@ -40,23 +38,6 @@ pub in-range-known : (c : Choice) → in-range c ≡ true → known (c .kernel) 
 unfolding in-range
 in-range-known c e = each-holds (ranges c) e .0
 
-asked-known : (c : Choice) → asked c ≡ true → known (c .kernel) ≡ true
-unfolding asked
-asked-known c = pick (eqb (c .kernel) 3) where
-  pick : (b : Bool) → cond b (in-range c) (known (c .kernel)) ≡ true → known (c .kernel) ≡ true
-  pick true e = in-range-known c e
-  pick false e = e
-
-second-passed : (a b : Bool) (q r : Refusal) (cs : List Check) → judged ((q if not a) ∷ (r if not b) ∷ cs) ≡ Passed → b ≡ true
-second-passed true b q r cs e = first-passed b r cs e
-second-passed false b q r cs e = cc
-
--- so does that of a direct caller, past its checks
-pub checked-known : (c : Choice) (n : ℕ) (radius : Float) (g H step w : List Float) → judged (kernel-checks (asked c) n radius g H step w) ≡ Passed → known (c .kernel) ≡ true
-checked-known c n radius g H step w e =
-    asked-known c (both (positive radius) (asked c)
-    (second-passed (all-hold (size n ∷ sized (n * n) H ∷ sized n g ∷ sized n step ∷ sized (room n) w ∷ [])) (positive radius && asked c) Size Setting ((Entry if not (all-finite g && all-finite H)) ∷ []) e) .1)
-
 -- ---- the door
 
 -- the sizes, where the length of a step is tested too and is n
@@ -64,7 +45,7 @@ no-step : (n h g scratch : ℕ) → all-hold (size n ∷ eqb h (n * n) ∷ eqb g
 no-step n h g scratch = rw (eq-eqb n n refl)
 
 module _ (c : Choice) (n : ℕ) (radius : Float) (g H w : List Float) where
-  -- past the checks of a direct caller the door is open
+  -- past its checks the door is open
   pub opened : {s : ℕ} → Lent n (length H) (length g) s (length w) → known (c .kernel) ≡ true → door c n radius g H w ≡ kernel c n radius g H
   unfolding door
   opened l k = rw (size-test (l .square), eq-eqb (length H) (n * n) (l .square .long), eq-eqb (length g) n (l .gradient), eq-eqb (length w) (room n) (l .roomy .long), k)
@@ -80,17 +61,23 @@ module _ (c : Choice) (n : ℕ) (radius : Float) (g H w : List Float) where
   unfolding door
   shut-kernel e k = rw (sym (no-step n (length H) (length g) (length w)) ∙ e, k) (record { says = refl; lays = refl })
 
--- ---- which kernel a number names
+-- ---- which kernel a number names, and what it laid
 
-module _ (c : Choice) where
-  pub first : c .kernel ≡ 1 → kernel c ≡ cauchy-point
-  unfolding kernel
-  first a = rw (eq-eqb (c .kernel) 1 a)
+module _ (c : Choice) (n : ℕ) (radius : Float) (g H : List Float) (r : Stepped) (w w′ : List Float) where
+  abbrev Chosen : Type 0
+  Chosen = Laid (kernel c n radius g H) r w w′
 
-  pub second : (c .kernel ≡ 1 → ⊥) → c .kernel ≡ 2 → kernel c ≡ dogleg
+  pub first : c .kernel ≡ 1 → Laid (cauchy-point n radius g H) r w w′ → Chosen
   unfolding kernel
-  second a b = rw (ne-eqb (c .kernel) 1 a, eq-eqb (c .kernel) 2 b)
+  first a h = rw (eq-eqb (c .kernel) 1 a) h
 
-  pub third : (c .kernel ≡ 1 → ⊥) → (c .kernel ≡ 2 → ⊥) → kernel c ≡ steihaug (c .epsilon) (c .limit)
+  pub second : (c .kernel ≡ 1 → ⊥) → c .kernel ≡ 2 → Laid (dogleg n radius g H) r w w′ → Chosen
   unfolding kernel
-  third a b = rw (ne-eqb (c .kernel) 1 a, ne-eqb (c .kernel) 2 b)
+  second a b h = rw (ne-eqb (c .kernel) 1 a, eq-eqb (c .kernel) 2 b) h
+
+  pub third : (c .kernel ≡ 1 → ⊥) → (c .kernel ≡ 2 → ⊥) → Laid (steihaug (c .epsilon) (c .limit) n radius g H) r w w′ → Chosen
+  unfolding kernel
+  third a b h = rw (ne-eqb (c .kernel) 1 a, ne-eqb (c .kernel) 2 b) h
+
+  pub through : {s : ℕ} → Lent n (length H) (length g) s (length w) → known (c .kernel) ≡ true → Chosen → Laid (door c n radius g H w) r w w′
+  through l k h = rw (opened c n radius g H w l k) h

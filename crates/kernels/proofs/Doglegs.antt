@@ -89,11 +89,10 @@ pub newtons : (n : ℕ) (R : Rows) (g w w₁ w₂ : List Float) → Puts w n 0 (
 unfolding newton
 newtons n R g w w₁ w₂ p q = q 0 ∙ each-times n (slot w₁ n 0) (slot w₁ n 0) (neg one) ∙ rw (p 0)
 
-pub unconstraineds : (n : ℕ) (x y : Float) (g H w w₁ w₂ : List Float) → Puts w n 1 g w₁ → x ≡ dot g g → y ≡ weighted n g H g
-    → Puts w₁ n 1 (each n (Times (neg x ⊘ y)) (slot w₁ n 1) (slot w₁ n 1)) w₂
-    → (slot w₂ n 1 ≡ unconstrained n g H) × (slot w₂ n 0 ≡ slot w n 0)
+pub unconstraineds : (n : ℕ) (x y : Float) (g H w w′ : List Float) → x ≡ dot g g → y ≡ weighted n g H g → Puts w n 1 (scale n g (neg x ⊘ y)) w′
+    → (slot w′ n 1 ≡ unconstrained n g H) × (slot w′ n 0 ≡ slot w n 0)
 unfolding unconstrained
-unconstraineds n x y g H w w₁ w₂ p a b q = (q 1 ∙ each-times n (slot w₁ n 1) (slot w₁ n 1) (neg x ⊘ y) ∙ rw (p 1, a, b), q 0 ∙ p 0)
+unconstraineds n x y g H w w′ a b p = (p 1 ∙ rw (a, b), p 0)
 
 -- the step, where ‖pb‖ is x
 module _ (n : ℕ) (radius x : Float) (pu w : List Float) (e : x ≡ norm (slot w n 0)) where

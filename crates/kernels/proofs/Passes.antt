@@ -24,14 +24,14 @@ use Rattle.vectors.specs.declared.refusal.Refusal.{Refusal}
 use Rattle.vectors.specs.declared.refusal.Refusal.the-variants.{Root}
 use Rattle.vectors.specs.declared.vector.Number.{Number}
 use Rattle.vectors.specs.declared.vector.Number.the-variants.{Is, Refused}
-use Rattle.kernels.specs.declared.workspace.Op.the-variants.{Same, Times, PlusTimes}
+use Rattle.kernels.specs.declared.workspace.Op.the-variants.{Same, PlusTimes, TurnedPlusTimes}
 use Rattle.kernels.specs.declared.steihaug.Roots.{Roots}
 use Rattle.kernels.specs.declared.steihaug.Roots.the-variants.{Two, Three}
 use Rattle.kernels.specs.declared.steihaug.Valued.{Valued}
 use Rattle.vectors.proofs.Vectors.{length-tab, length-plus}
-use Rattle.kernels.proofs.Ops.{each-same, each-times, each-plus-times}
+use Rattle.kernels.proofs.Ops.{each-same, each-plus-times, each-turned-plus-times}
 use Rattle.vectors.proofs.Slots.{length-slot}
-use Rattle.kernels.proofs.Kernels.{Late, then-handed, laid-same}
+use Rattle.kernels.proofs.Kernels.{Late, handed-proper, then-handed, laid-same}
 
 -- ---- roots
 
@@ -158,8 +158,8 @@ module _ (w w′ : List Float) (n k x y : ℕ) where
   pub put-ahead : (t : Float) → Puts w n k (each n (PlusTimes t) (slot w n x) (slot w n y)) w′ → Puts w n k (ahead n (slot w n x) (slot w n y) t) w′
   put-ahead t p = subst (λ (v : List Float). Puts w n k v w′) (each-plus-times n (slot w n x) (slot w n y) t) p
 
-  pub put-scaled : (t : Float) → Puts w n k (each n (Times t) (slot w n x) (slot w n y)) w′ → Puts w n k (scale n (slot w n x) t) w′
-  put-scaled t p = subst (λ (v : List Float). Puts w n k v w′) (each-times n (slot w n x) (slot w n y) t) p
+  pub put-turned : (t : Float) → Puts w n k (each n (TurnedPlusTimes t) (slot w n x) (slot w n y)) w′ → Puts w n k (ahead n (scale n (slot w n x) (neg one)) (slot w n y) t) w′
+  put-turned t p = subst (λ (v : List Float). Puts w n k v w′) (each-turned-plus-times n (slot w n x) (slot w n y) t) p
 
 -- ---- the ends of a pass
 
@@ -181,11 +181,11 @@ module _ (n : ℕ) (radius : Float) (w ts : List Float) (tau : Answer Float) (o 
   unfolding crossing
   forward-here f h = h ∙ rw (f, e)
 
-pub onward-here : (w w₁ w₂ w₃ : List Float) (n : ℕ) (rtr ss : Float) → ss ≡ dot (slot w n 1) (slot w n 1) → Puts w n 7 (scale n (slot w n 1) (neg one)) w₁
-    → Puts w₁ n 2 (ahead n (slot w₁ n 7) (slot w₁ n 2) (ss ⊘ rtr)) w₂ → Puts w₂ n 0 (slot w₂ n 6) w₃
-    → goes-on (state-in w₃ n ss) ≡ goes-on (onward n (state-in w n rtr) (slot w n 6) (slot w n 1))
+pub onward-here : (w w₁ w₂ : List Float) (n : ℕ) (rtr ss : Float) → ss ≡ dot (slot w n 1) (slot w n 1)
+    → Puts w n 2 (ahead n (scale n (slot w n 1) (neg one)) (slot w n 2) (ss ⊘ rtr)) w₁ → Puts w₁ n 0 (slot w₁ n 6) w₂
+    → goes-on (state-in w₂ n ss) ≡ goes-on (onward n (state-in w n rtr) (slot w n 6) (slot w n 1))
 unfolding onward
-onward-here w w₁ w₂ w₃ n rtr ss e a b c = simp (c, b, a, e)
+onward-here w w₁ w₂ n rtr ss e a b = simp (b, a, e)
 
 -- q in slot 6
 module _ (w w₁ : List Float) (n : ℕ) (radius small rtr alpha nq : Float) (a : Puts w n 6 (ahead n (slot w n 0) (slot w n 2) alpha) w₁) (en : nq ≡ norm (slot w₁ n 6)) where
@@ -255,7 +255,7 @@ module _ (w v rest : List Float) (n : ℕ) (l : n ≤ length w) (e : v ≡ zeros
       let z : 0 * n ≡ 0 = omega arith in
       rw z (take-at v rest n (ap length is-zeros ∙ length-tab n (λ i. nought)) ∙ is-zeros)
 
-  pub start-here : (g w₁ w₂ : List Float) (rtr : Float) → Puts (v ++ rest) n 1 g w₁ → Puts w₁ n 2 (scale n (slot w₁ n 1) (neg one)) w₂ → rtr ≡ dot g g
+  pub start-here : (g w₁ w₂ : List Float) (rtr : Float) → Puts (v ++ rest) n 1 g w₁ → Puts w₁ n 2 (scale n g (neg one)) w₂ → rtr ≡ dot g g
       → state-in w₂ n rtr ≡ start n g
   unfolding start
   start-here g w₁ w₂ rtr a b f = rw (b 0, b 1, b 2, a 0, a 1, f, clear-slot)
@@ -325,6 +325,12 @@ steihaug-proper epsilon limit n radius g H =
     let long = length-tab n (λ i. nought) in
     then-handed n (cond (lt (norm g) epsilon) (given (made 0 (zeros n))) all)
     (either (Proper n) (lt (norm g) epsilon) long (run-proper n radius (epsilon ⊗ norm g) g H limit 0 (start n g) long))
+
+-- the point of slot 6, moved to slot 0 and settled there
+pub moved-laid : (n passes : ℕ) (w w₁ w₂ : List Float) (r : Stepped) → 6 * n + n ≤ length w → Puts w n 0 (slot w n 6) w₁ → length w₁ ≡ length w
+    → Laid (handed-out (made passes (slot w₁ n 0))) r w₁ w₂ → Laid (handed-out (made passes (slot w n 6))) r w w₂
+moved-laid n passes w w₁ w₂ r h p l e =
+    laid-same n (handed-out (made passes (slot w₁ n 0))) (handed-out (made passes (slot w n 6))) r w₁ w w₂ (handed-proper n (made passes (slot w n 6)) (length-slot w n 6 h)) (ap (λ (v : List Float). handed-out (made passes v)) (p 0)) l e
 
 -- ---- the kernel, where w holds the start
 

@@ -6,7 +6,6 @@ use crate::inner;
 use crate::kernel;
 use crate::kernel::Stepped;
 use crate::workspace;
-use crate::workspace::Op;
 use vectors::vector;
 ghost use mathlib.Core.Path.{_≡_};
 ghost use mathlib.Core.Bool.{true};
@@ -37,11 +36,10 @@ pub(crate) fn lay(n: usize, radius: f64, g: &[f64], h: &[f64], w: &mut [f64]) ->
     requires { ⌜ Square n (length (now h)) × (length (now g) ≡ n) × Roomy n (length (now w)) ⌝ }
     ensures { λ r. ⌜ Laid (CauchyPoint.cauchy-point n radius (now (g .entry)) (now (h .entry))) r (now (w .entry)) (now (w .exit)) ⌝ }
 {
-    let curvature = inner::weighted_unchecked(n, g, h, g);
     let norm = vector::norm_any(g);
-    workspace::put(n, w, 0, g);
-    workspace::each(n, w, 0, Op::Times(factor(radius, curvature, norm)), 0, 0);
-    kernel::settle(n, w, 0, 0)
+    let curvature = inner::weighted_unchecked(n, g, h, g);
+    workspace::put_times(n, w, 0, g, factor(radius, curvature, norm));
+    kernel::settle(n, w, 0)
 }
 
 // The kernel for a direct caller.

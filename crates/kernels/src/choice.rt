@@ -8,6 +8,8 @@ use vectors::refusal;
 use vectors::refusal::Refusal;
 use vectors::refusal::Verdict;
 ghost use mathlib.Core.Path.{_≡_};
+ghost use lib.ListN.{length};
+ghost use Rattle.vectors.specs.Refusal.{Square, Roomy};
 ghost use Rattle.kernels.specs.Kernel.{Laid, Took, called};
 ghost use Rattle.kernels.specs.Choice as Definition;
 ghost use Rattle.kernels.specs.Choice.{by-default, choice-of, in-range, door};
@@ -74,6 +76,28 @@ fn asked(choice: Choice) -> bool
     known(choice.kernel)
 }
 
+// The kernel that is chosen, over lists of the right lengths. A number that is neither 1 nor 2 counts as 3 here; both callers
+// have looked.
+fn chosen(
+    choice: Choice,
+    n: usize,
+    radius: f64,
+    g: &[f64],
+    h: &[f64],
+    w: &mut [f64],
+) -> Stepped
+    requires { ⌜ Square n (length (now h)) × (length (now g) ≡ n) × Roomy n (length (now w)) ⌝ }
+    ensures { λ r. ⌜ Laid (Definition.kernel choice n radius (now (g .entry)) (now (h .entry))) r (now (w .entry)) (now (w .exit)) ⌝ }
+{
+    if choice.kernel == 1 {
+        return cauchypoint::lay(n, radius, g, h, w);
+    }
+    if choice.kernel == 2 {
+        return dogleg::lay(n, radius, g, h, w);
+    }
+    steihaug::lay(n, radius, choice.epsilon, choice.limit, g, h, w)
+}
+
 // The sessions' door, for callers that have looked. Asked here is what no kernel can run without: n, the lengths, and the
 // kernel's number. A radius that is zero, negative or a NaN, an epsilon or a limit out of range, and a NaN in the gradient
 // or the Hessian are taken as they come. The step is left in the scratch. It is public since the sessions stand in crates
@@ -95,24 +119,10 @@ pub fn lay_unchecked(
     if !known(choice.kernel) {
         return Stepped::Refused(Refusal::Setting);
     }
-    if choice.kernel == 1 {
-        return cauchypoint::lay(n, radius, gradient, hessian, scratch);
-    }
-    if choice.kernel == 2 {
-        return dogleg::lay(n, radius, gradient, hessian, scratch);
-    }
-    steihaug::lay(
-        n,
-        radius,
-        choice.epsilon,
-        choice.limit,
-        gradient,
-        hessian,
-        scratch,
-    )
+    chosen(choice, n, radius, gradient, hessian, scratch)
 }
 
-// A kernel for a direct caller: refusals 1, 2 and 4 before the door, and the copy after it.
+// A kernel for a direct caller: refusals 1, 2 and 4 before the kernel, and the copy after it.
 pub fn direct(
     choice: Choice,
     n: usize,
@@ -138,7 +148,7 @@ pub fn direct(
     match verdict {
         Verdict::Failed(r) => Stepped::Refused(r),
         Verdict::Passed => {
-            let found = lay_unchecked(choice, n, radius, gradient, hessian, scratch);
+            let found = chosen(choice, n, radius, gradient, hessian, scratch);
             kernel::hand_over(n, found, step, scratch)
         }
     }

@@ -63,9 +63,8 @@ fn unconstrained(n: usize, w: &mut [f64], g: &[f64], h: &[f64])
     requires { ⌜ Square n (length (now h)) × (length (now g) ≡ n) × (3 * n ≤ length (now w)) ⌝ }
     ensures { λ _. ⌜ (slot (now (w .exit)) n 1 ≡ Dogleg.unconstrained n (now (g .entry)) (now (h .entry))) × (slot (now (w .exit)) n 0 ≡ slot (now (w .entry)) n 0) ⌝ }
 {
-    workspace::put(n, w, 1, g);
     let factor = -vector::dot_any(g, g) / inner::weighted_unchecked(n, g, h, g);
-    workspace::each(n, w, 1, Op::Times(factor), 1, 1);
+    workspace::put_times(n, w, 1, g, factor);
 }
 
 // Slot 0 has pb, and takes the step.
@@ -97,7 +96,7 @@ pub(crate) fn lay(n: usize, radius: f64, g: &[f64], h: &[f64], w: &mut [f64]) ->
     inverse::inverse_times(n, w, 0, g);
     workspace::each(n, w, 0, Op::Times(-1.0), 0, 0);
     step(n, radius, g, h, w);
-    kernel::settle(n, w, 0, 0)
+    kernel::settle(n, w, 0)
 }
 
 // The kernel for a direct caller.

@@ -1,6 +1,5 @@
 // What the three kernels share: the checks before them, and the end of each.
 use crate::workspace;
-use crate::workspace::Op;
 use vectors::refusal;
 use vectors::refusal::Refusal;
 use vectors::refusal::Verdict;
@@ -85,19 +84,19 @@ pub(crate) fn checked(
     Verdict::Passed
 }
 
-// The end of every kernel: slot k is its step, unless refusal 8 is due.
-pub(crate) fn settle(n: usize, w: &mut [f64], k: usize, passes: u64) -> Stepped
-    requires { ⌜ k * n + n ≤ length (now w) ⌝ }
-    ensures { λ r. ⌜ Laid (handed-out (made passes (slot (now (w .entry)) n k))) r (now (w .entry)) (now (w .exit)) ⌝ }
+// The end of every kernel: slot 0 is its step, unless refusal 8 is due.
+pub(crate) fn settle(n: usize, w: &mut [f64], passes: u64) -> Stepped
+    requires { ⌜ n ≤ length (now w) ⌝ }
+    ensures { λ r. ⌜ Laid (handed-out (made passes (slot (now (w .entry)) n 0))) r (now (w .entry)) (now (w .exit)) ⌝ }
 {
+    // first, so that the machine can clear while it waits for the norm
+    vector::clear(&mut w[n..]);
+    let norm = workspace::norm(n, w, 0);
     // where a number of the step is not finite, its norm is not
-    let norm = vector::norm_any(workspace::part(n, w, k));
     if !float::finite(norm) {
         vector::clear(w);
         return Stepped::Refused(Refusal::Range);
     }
-    workspace::each(n, w, 0, Op::Same, k, k);
-    vector::clear(&mut w[n..]);
     Stepped::In(passes, norm)
 }
 

@@ -20,7 +20,7 @@ ghost use Rattle.float.specs.Numbers.{finite};
 ghost use Rattle.vectors.specs.Slots.{slot};
 ghost use Rattle.vectors.specs.Refusal.{Square, Roomy, then};
 ghost use Rattle.vectors.specs.Calls.{tells};
-ghost use Rattle.kernels.specs.Kernel.{bounded, handed-out, Proper, Laid, Took, called};
+ghost use Rattle.kernels.specs.Kernel.{bounded, made, handed-out, Proper, Laid, Took, called};
 ghost use Rattle.kernels.specs.Steihaug as Steihaug;
 ghost use Rattle.kernels.specs.Steihaug.{listed, state-in, Keeps, passed, ran};
 
@@ -207,8 +207,7 @@ fn straight(n: usize, w: &mut [f64], radius: f64, small: f64, rtr: f64, alpha: f
     // on to the next pass, from q and s
     let ss = workspace::dot(n, w, 1, 1);
     let beta = ss / rtr;
-    workspace::each(n, w, 7, Op::Times(-1.0), 1, 1);
-    workspace::each(n, w, 2, Op::PlusTimes(beta), 7, 2);
+    workspace::each(n, w, 2, Op::TurnedPlusTimes(beta), 1, 2);
     workspace::each(n, w, 0, Op::Same, 6, 6);
     Turn::WentOn(ss)
 }
@@ -270,8 +269,17 @@ fn start(n: usize, w: &mut [f64], g: &[f64]) -> f64
 {
     vector::clear(&mut w[..n]);
     workspace::put(n, w, 1, g);
-    workspace::each(n, w, 2, Op::Times(-1.0), 1, 1);
+    workspace::put_times(n, w, 2, g, -1.0);
     vector::dot_any(g, g)
+}
+
+// The point that a pass chose, in slot 6, is the step.
+fn settle_chosen(n: usize, w: &mut [f64], passes: u64) -> Stepped
+    requires { ⌜ 8 * n ≤ length (now w) ⌝ }
+    ensures { λ r. ⌜ Laid (handed-out (made passes (slot (now (w .entry)) n 6))) r (now (w .entry)) (now (w .exit)) ⌝ }
+{
+    workspace::each(n, w, 0, Op::Same, 6, 6);
+    kernel::settle(n, w, passes)
 }
 
 // The point at which the passes ended is the step.
@@ -280,9 +288,9 @@ fn settle(n: usize, w: &mut [f64], end: Exit) -> Stepped
     ensures { λ r. ⌜ Laid (then handed-out (ran end n (now (w .entry)))) r (now (w .entry)) (now (w .exit)) ⌝ }
 {
     match end {
-        Exit::Limit(passes) => kernel::settle(n, w, 0, passes),
-        Exit::Boundary(passes) => kernel::settle(n, w, 6, passes),
-        Exit::Inside(passes) => kernel::settle(n, w, 6, passes),
+        Exit::Limit(passes) => kernel::settle(n, w, passes),
+        Exit::Boundary(passes) => settle_chosen(n, w, passes),
+        Exit::Inside(passes) => settle_chosen(n, w, passes),
         Exit::Refused(r) => {
             vector::clear(w);
             Stepped::Refused(r)
@@ -306,7 +314,7 @@ pub(crate) fn lay(
     let norm = vector::norm_any(g);
     let rtr = start(n, w, g);
     if norm < epsilon {
-        return kernel::settle(n, w, 0, 0);
+        return kernel::settle(n, w, 0);
     }
     let end = run(n, w, radius, epsilon * norm, rtr, limit, g, h);
     settle(n, w, end)

@@ -10,11 +10,12 @@ ghost use Rattle.vectors.specs.Slots.{slot, Puts};
 ghost use Rattle.vectors.specs.Refusal.{Square};
 ghost use Rattle.kernels.specs.Workspace as Workspace;
 
-// x; x·a; x + y·a; x − y; x / a; x − a·y.
+// x; x·a; x + y·a; x·(−1) + y·a; x − y; x / a; x − a·y.
 pub enum Op {
     Same,
     Times(f64),
     PlusTimes(f64),
+    TurnedPlusTimes(f64),
     Minus,
     Over(f64),
     LessTimes(f64),
@@ -27,6 +28,7 @@ fn apply(op: Op, x: f64, y: f64) -> f64
         Op::Same => x,
         Op::Times(a) => x * a,
         Op::PlusTimes(a) => x + y * a,
+        Op::TurnedPlusTimes(a) => x * -1.0 + y * a,
         Op::Minus => x - y,
         Op::Over(a) => x / a,
         Op::LessTimes(a) => x - a * y,
@@ -82,6 +84,19 @@ pub(crate) fn put(n: usize, w: &mut [f64], to: usize, v: &[f64])
     let mut i = 0;
     while i < n {
         w[start + i] = float::one_nan(v[i]);
+        i += 1;
+    }
+}
+
+// Slot to takes v·a.
+pub(crate) fn put_times(n: usize, w: &mut [f64], to: usize, v: &[f64], a: f64)
+    requires { ⌜ (to * n + n ≤ length (now w)) × (length (now v) ≡ n) ⌝ }
+    ensures { λ _. ⌜ Puts (now (w .entry)) n to (Vector.scale n (now (v .entry)) a) (now (w .exit)) ⌝ }
+{
+    let start = to * n;
+    let mut i = 0;
+    while i < n {
+        w[start + i] = v[i] * a;
         i += 1;
     }
 }

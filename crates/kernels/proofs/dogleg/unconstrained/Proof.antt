@@ -6,13 +6,13 @@ use Rattle.kernels.proofs.dogleg.unconstrained.Tie as tie
 
 returns : tie.Need-returns
 returns c =
-    let scaled = c .before .before in
-    let weighted = scaled .before .before in
-    unconstraineds _ _ _ _ _ _ _ _ (weighted .before .before .before .before .put .ensures) (weighted .before .dot-any .ensures) (weighted .weighted-unchecked .ensures) (scaled .each .ensures)
+    let put = c .before .before in
+    let weighted = put .before .before in
+    unconstraineds _ _ _ _ _ _ _ (weighted .before .dot-any .ensures) (weighted .weighted-unchecked .ensures) (put .put-times .ensures)
 
 pub unconstrained-spec : {M : Type 1} → statement M
 unconstrained-spec =
     tie.close
     (tie.spec
-    (λ c κs. search needs) (λ c κs. search needs) (λ c κs. search needs) (λ c κs. search needs) (λ c. search needs)
+    (λ c κs. search needs) (λ c κs. search needs) (λ c κs. search needs) (λ c. search needs)
     returns)

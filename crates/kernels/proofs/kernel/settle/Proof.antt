@@ -7,24 +7,24 @@ use Rattle.kernels.proofs.kernel.settle.Tie as tie
 
 returns : tie.Need-returns
 returns c =
-    let cleared = c .before .before in
-    let tested = cleared .before .before in
+    let again = c .before .before in
+    let tested = again .before .before in
     let normed = tested .before .before in
-    unsettled _ _ _ _ _ _ (normed .before .part .ensures .0) (normed .norm-any .ensures) _ (failed (tested .before .finite .ensures) (tested .if1 .taken)) (cleared .clear .ensures)
+    let cleared = normed .before .before .before .before in
+    unsettled _ _ _ _ (cleared .before .before .before .pre) (cleared .clear .ensures) _ (normed .norm .ensures) _ (failed (tested .before .finite .ensures) (tested .if1 .taken)) (again .clear2 .ensures)
 
 returns-2 : tie.Need-returns-2
 returns-2 c =
-    let cleared = c .before .before in
-    let copied = cleared .before .before .before .before in
-    let tested = copied .before .before in
-    let normed = tested .before .before in
-    settled _ _ _ _ _ _ (normed .before .part .ensures .0) (normed .norm-any .ensures) _ _ (passed (tested .before .finite .ensures) (tested .if1 .left)) (normed .before .before .before .before .pre) (copied .each .ensures) (copied .each .kept .1 .0) (cleared .clear2 .ensures)
+    let normed = c .before .before in
+    let cleared = normed .before .before .before .before in
+    settled _ _ _ _ (cleared .before .before .before .pre) (cleared .clear .ensures) _ (normed .norm .ensures) (passed (c .before .finite .ensures) (c .if1 .left))
 
 pub settle-spec : {M : Type 1} → statement M
 settle-spec =
     tie.close
     (tie.spec
-    (λ c κs. search needs) (λ c κs. search needs) (λ c κs. search needs) (λ c κs. search needs) (λ c. search needs)
+    (λ c. search needs) (λ c. search needs) (λ c. search needs) (λ c. search needs) (λ c κs. search needs) (λ c κs. search needs) (λ c κs. search needs) (λ c κs. search needs)
+    (λ c. search needs)
     returns
-    (λ c κs. search needs) (λ c. search needs) (λ c. search needs) (λ c. search needs) (λ c. search needs) (λ c κs. search needs) (λ c. search needs)
+    (λ c. search needs)
     returns-2)

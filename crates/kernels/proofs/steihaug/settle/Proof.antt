@@ -20,10 +20,10 @@ returns : tie.Need-returns
 returns c = rw (c .before .before .before .before .before .end .given .1) (c .before .before .settle .ensures)
 
 returns-2 : tie.Need-returns-2
-returns-2 c = rw (c .before .before .before .before .before .end2 .given .1) (c .before .before .settle2 .ensures)
+returns-2 c = rw (c .before .before .before .before .before .end2 .given .1) (c .before .before .settle-chosen .ensures)
 
 returns-3 : tie.Need-returns-3
-returns-3 c = rw (c .before .before .before .before .before .end3 .given .1) (c .before .before .settle3 .ensures)
+returns-3 c = rw (c .before .before .before .before .before .end3 .given .1) (c .before .before .settle-chosen2 .ensures)
 
 returns-4 : tie.Need-returns-4
 returns-4 c =

@@ -2,7 +2,7 @@
 use mathlib.Core.Path.{sym}
 use lib.Seq.{length-take-le}
 use borrow.Author.Needs.{needs}
-use Rattle.kernels.proofs.Passes.{put-scaled, start-here}
+use Rattle.kernels.proofs.Passes.{start-here}
 use Rattle.kernels.proofs.steihaug.start.Statement.{statement}
 use Rattle.kernels.proofs.steihaug.start.Tie as tie
 
@@ -11,7 +11,7 @@ returns c =
     let d = c .before .before .before in
     let r = d .before .before .before .before in
     let p = r .before .before .before .before in
-    start-here _ _ _ _ (search needs) (p .clear .ensures) _ _ _ _ (r .put .ensures) (put-scaled _ _ _ 2 1 1 _ (d .each .ensures)) (c .dot-any .ensures)
+    start-here _ _ _ _ (search needs) (p .clear .ensures) _ _ _ _ (r .put .ensures) (d .put-times .ensures) (c .dot-any .ensures)
 
 pub start-spec : {M : Type 1} → statement M
 start-spec =

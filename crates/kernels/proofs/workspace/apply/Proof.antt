@@ -7,6 +7,6 @@ pub apply-spec : {M : Type 1} → statement M
 apply-spec =
     tie.close
     (tie.spec
-    (λ c. search needs) (λ c. search needs) (λ c. search needs) (λ c. search needs) (λ c. search needs) (λ c. search needs)
-    (λ c. search needs) (λ c. rw (c .before .op .given .1)) (λ c. rw (c .before .op2 .given .1))
-    (λ c. rw (c .enum-told2 .given .1)) (λ c. rw (c .before .op3 .given .1)) (λ c. rw (c .before .op4 .given .1)))
+    (λ c. search needs) (λ c. search needs) (λ c. search needs) (λ c. search needs) (λ c. search needs) (λ c. search needs) (λ c. search needs)
+    (λ c. search needs) (λ c. rw (c .before .op .given .1)) (λ c. rw (c .before .op2 .given .1)) (λ c. rw (c .before .op3 .given .1))
+    (λ c. rw (c .enum-told2 .given .1)) (λ c. rw (c .before .op4 .given .1)) (λ c. rw (c .before .op5 .given .1)))

@@ -1,0 +1,16 @@
+-- `kernels::choice::chosen` meets its contract. Assumes nothing.
+use borrow.Author.Needs.{needs}
+use Rattle.kernels.proofs.Choices.{first, second, third}
+use Rattle.kernels.proofs.choice.chosen.Statement.{statement}
+use Rattle.kernels.proofs.choice.chosen.Tie as tie
+
+pub chosen-spec : {M : Type 1} → statement M
+chosen-spec =
+    tie.close
+    (tie.spec
+    (λ c κs. search needs) (λ c. search needs)
+    (λ c. first _ _ _ _ _ _ _ _ (c .before .before .before .before .if1 .taken) (c .before .before .lay .ensures))
+    (λ c κs. search needs) (λ c. search needs)
+    (λ c. let two = c .before .before .before .before in second _ _ _ _ _ _ _ _ (two .before .before .if1 .left) (two .if2 .taken) (c .before .before .lay2 .ensures))
+    (λ c κs. search needs) (λ c. search needs)
+    (λ c. let three = c .before .before .before .before in third _ _ _ _ _ _ _ _ (three .before .before .if1 .left) (three .if2 .left) (c .before .before .lay3 .ensures)))
