@@ -6,6 +6,7 @@ pub mod Commute
 pub mod Order
 pub mod Values
 pub mod Signs
+pub mod Zero
 pub mod Quarter
 pub mod Patterns
 pub mod Operands

@@ -1,4 +1,4 @@
--- Signs of rounded differences and quotients, and what a quarter and the smaller of two are no larger than. Assumes nothing.
+-- Signs of rounded sums, differences, products and quotients, and what a quarter and the smaller of two are no larger than. Assumes nothing.
 use mathlib.Core.Path.{_≡_, refl, sym, ap, _∙_, subst}
 use mathlib.Core.Logic.{inl, inr}
 use Prim.Native.Nat.{ℕ, zero, suc, _+_, _-_, _*_, _^_, _≤_, _<_, zero-le}
@@ -6,15 +6,15 @@ use native.Mathlib.Nat.{le-trans, le-of-eq, lt-of-lt-of-le, lt-of-le-of-lt, lt-i
 use native.Mathlib.Omega.{arith}
 use mathlib.Core.Bool.{Bool, true, false, not, cond, true≢false}
 use lib.IntN.{ℤ, pos}
-use lib.Dec.{T, ltb, ltb→lt, lt→ltb, nltb→le}
+use lib.Dec.{T, eqb, ltb, ltb→lt, lt→ltb, nltb→le}
 use lib.Pow.{pow-pos}
-use lib.Ieee.{Float, nan, inf, fin, binary64, up, down, below, unlike, odd, units, round, sum, sub, mul, div, lt, le, fits, ofBits, isNan}
+use lib.Ieee.{Float, nan, inf, fin, binary64, up, down, below, unlike, odd, units, round, neg, sum, add, sub, mul, div, lt, le, fits, ofBits, isNan}
 use lib.Ieee.Fits.{up-pos, down-pos, round-is}
 use lib.Ieee.Exact.{HasValue, round-exact}
 use lib.Ieee.Order.{round-mono}
 use lib.Ieee.Positive.{first-pos}
 use borrow.Author.Tests.{ne-eqb}
-use Rattle.float.specs.Numbers.{_⊖_, _⊗_, _⊘_, smaller}
+use Rattle.float.specs.Numbers.{_⊕_, _⊖_, _⊗_, _⊘_, smaller}
 use Rattle.float.specs.Constants.{nought, quarter}
 use Rattle.float.proofs.Nan.{real}
 use Rattle.float.proofs.Scalars.{zero-exponent}
@@ -24,7 +24,7 @@ use Rattle.float.proofs.Values.{round-own}
 -- ---- what is above zero, and what is not below it
 
 -- a number is above zero where it is not negative and not zero
-fin-above : (s : Bool) (m : ℕ) (e : ℤ) → T (lt nought (fin s m e)) → (s ≡ false) × (0 < m)
+pub fin-above : (s : Bool) (m : ℕ) (e : ℤ) → T (lt nought (fin s m e)) → (s ≡ false) × (0 < m)
 unfolding lt ofBits
 fin-above true m e t = absurd t
 fin-above false m e t = (refl, first-pos m (up e) (first-pos (m * up e) 1 (lt-of-le-of-lt zero-le (ltb→lt (0 * down e) (m * up e * 1) t))))
@@ -82,6 +82,94 @@ units-sign s q k = go (ltb (q * 2 ^ k) (2 ^ 2098))
 
 round-sign : (s : Bool) (n c : ℕ) → sign (round binary64 s n c) ≡ s
 round-sign s n c = ap sign (round-is binary64 s n c) ∙ units-sign s _ _
+
+-- ---- so the sign of what is no NaN is that of its operands; a NaN has none, which counts as no minus
+
+pub above-sign : (x : Float) → T (lt nought x) → sign x ≡ false
+above-sign nan t = refl
+above-sign (inf s) t = inf-above s t
+above-sign (fin s m e) t = fin-above s m e t .0
+
+pub neg-sign : (x : Float) → T (real x) → sign (neg x) ≡ not (sign x)
+unfolding neg isNan
+neg-sign nan r = absurd r
+neg-sign (inf s) r = refl
+neg-sign (fin s m e) r = refl
+
+pub neg-real : (x : Float) → T (real (neg x)) → T (real x)
+unfolding neg isNan
+neg-real nan r = absurd r
+neg-real (inf s) r = tt
+neg-real (fin s m e) r = tt
+
+-- an infinity, unless a zero spoils it
+spoilt-sign : (b s : Bool) → T (real (cond b nan (inf s))) → sign (cond b nan (inf s)) ≡ s
+unfolding isNan
+spoilt-sign true s r = absurd r
+spoilt-sign false s r = refl
+
+pub mul-sign : (x y : Float) → T (real (x ⊗ y)) → sign (x ⊗ y) ≡ unlike (sign x) (sign y)
+unfolding mul isNan
+mul-sign nan y r = absurd r
+mul-sign (inf s) nan r = absurd r
+mul-sign (inf s) (inf t) r = refl
+mul-sign (inf s) (fin t n d) r = spoilt-sign (eqb n 0) (unlike s t) r
+mul-sign (fin s m e) nan r = absurd r
+mul-sign (fin s m e) (inf t) r = spoilt-sign (eqb m 0) (unlike s t) r
+mul-sign (fin s m e) (fin t n d) r = round-sign (unlike s t) (m * up e * (n * up d)) (down e * down d)
+
+pub mul-real : (x y : Float) → T (real (x ⊗ y)) → T (real x) × T (real y)
+unfolding mul isNan
+mul-real nan y r = absurd r
+mul-real (inf s) nan r = absurd r
+mul-real (inf s) (inf t) r = (tt, tt)
+mul-real (inf s) (fin t n d) r = (tt, tt)
+mul-real (fin s m e) nan r = absurd r
+mul-real (fin s m e) (inf t) r = (tt, tt)
+mul-real (fin s m e) (fin t n d) r = (tt, tt)
+
+pub div-sign : (x y : Float) → T (real (x ⊘ y)) → sign (x ⊘ y) ≡ unlike (sign x) (sign y)
+unfolding div isNan
+div-sign nan y r = absurd r
+div-sign (inf s) nan r = absurd r
+div-sign (inf s) (inf t) r = absurd r
+div-sign (inf s) (fin t n d) r = refl
+div-sign (fin s m e) nan r = absurd r
+div-sign (fin s m e) (inf t) r = refl
+div-sign (fin s m e) (fin t n d) r = go (eqb n 0) r
+  where
+    go : (b : Bool) → T (real (cond b (cond (eqb m 0) nan (inf (unlike s t))) (round binary64 (unlike s t) (m * up e * down d) (n * up d * down e))))
+        → sign (cond b (cond (eqb m 0) nan (inf (unlike s t))) (round binary64 (unlike s t) (m * up e * down d) (n * up d * down e))) ≡ unlike s t
+    go true q = spoilt-sign (eqb m 0) (unlike s t) q
+    go false q = round-sign (unlike s t) (m * up e * down d) (n * up d * down e)
+
+pub div-real : (x y : Float) → T (real (x ⊘ y)) → T (real x)
+unfolding div isNan
+div-real nan y r = absurd r
+div-real (inf s) y r = tt
+div-real (fin s m e) y r = tt
+
+pub square-sign : (x : Float) → sign (x ⊗ x) ≡ false
+unfolding mul
+square-sign nan = refl
+square-sign (inf true) = refl
+square-sign (inf false) = refl
+square-sign (fin true m e) = round-sign false (m * up e * (m * up e)) (down e * down e)
+square-sign (fin false m e) = round-sign false (m * up e * (m * up e)) (down e * down e)
+
+pub add-sign : (x y : Float) → sign x ≡ false → sign y ≡ false → sign (x ⊕ y) ≡ false
+unfolding add sum
+add-sign nan y p q = refl
+add-sign (inf s) nan p q = refl
+add-sign (inf true) (inf t) p q = absurd (true≢false p)
+add-sign (inf false) (inf true) p q = absurd (true≢false q)
+add-sign (inf false) (inf false) p q = refl
+add-sign (inf s) (fin t n d) p q = p
+add-sign (fin s m e) nan p q = refl
+add-sign (fin s m e) (inf t) p q = q
+add-sign (fin true m e) (fin t n d) p q = absurd (true≢false p)
+add-sign (fin false m e) (fin true n d) p q = absurd (true≢false q)
+add-sign (fin false m e) (fin false n d) p q = round-sign false (m * up e * down d + n * up d * down e) (down e * down d)
 
 -- a fraction that rounds to a number above zero is above zero itself
 negative-not : (x : Float) → sign x ≡ true → T (lt nought x) → ⊥

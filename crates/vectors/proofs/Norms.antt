@@ -6,10 +6,12 @@ use Prim.Native.Nat.{ℕ, zero, suc, _<_}
 use native.Mathlib.Omega.{arith}
 use lib.Dec.{T, ltb}
 use lib.ListN.{length}
-use lib.Ieee.{Float}
+use lib.Ieee.{Float, ofBits}
 use lib.Ieee.Fits.{and-i}
 use borrow.Author.Tests.{ltb-true, ltb-false}
 use Rattle.float.specs.Numbers.{_⊗_, finite}
+use Rattle.float.proofs.Order.{sign}
+use Rattle.float.proofs.Signs.{add-sign, square-sign}
 use Rattle.float.proofs.Operands.{add-finite, square-finite}
 use Rattle.root.proofs.Laws.{root-finite}
 use Rattle.vectors.specs.Vector.{at, all-finite, dot-to, dot, norm}
@@ -43,3 +45,15 @@ norm-tells v = go (finite (norm v)) (all-finite v) (norm-finite v)
     go true false f = absurd (f tt)
     go false true f = refl
     go false false f = refl
+
+-- ---- signs
+
+squares-sign : (v : List Float) (k : ℕ) → sign (dot-to v v k) ≡ false
+unfolding dot-to ofBits
+squares-sign v zero = refl
+squares-sign v (suc k) = add-sign (dot-to v v k) (at v k ⊗ at v k) (squares-sign v k) (square-sign (at v k))
+
+-- the dot of a vector with itself has no minus, not even that of −0
+pub dot-sign : (v : List Float) → sign (dot v v) ≡ false
+unfolding dot
+dot-sign v = squares-sign v (length v)
