@@ -11,6 +11,7 @@ use Rattle.vectors.specs.Refusal.{all-hold, size, sized, room}
 use Rattle.kernels.specs.Kernel.{Proper, Laid}
 use Rattle.kernels.specs.CauchyPoint.{cauchy-point}
 use Rattle.kernels.specs.Dogleg.{dogleg}
+use Rattle.kernels.specs.Textbook.{textbook-dogleg}
 use Rattle.kernels.specs.Steihaug.{steihaug}
 use Rattle.kernels.specs.Choice.{known, ranges, in-range, kernel, door}
 use Rattle.vectors.specs.declared.refusal.Refusal.the-variants.{Size, Setting}
@@ -21,20 +22,22 @@ use Rattle.vectors.proofs.Sizes.{each-holds, size-test}
 use Rattle.kernels.proofs.Kernels.{Lent}
 use Rattle.kernels.proofs.CauchyPoints.{cauchy-proper}
 use Rattle.kernels.proofs.Doglegs.{dogleg-proper}
+use Rattle.kernels.proofs.Textbooks.{textbook-proper}
 use Rattle.kernels.proofs.Passes.{steihaug-proper}
 
 -- a kernel's step has n numbers, and a kernel refuses from 6 on
 pub kernel-proper : (c : Choice) (n : ℕ) (radius : Float) (g H : List Float) → Proper n (kernel c n radius g H)
 unfolding kernel
-kernel-proper c n radius g H = pick (eqb (c .kernel) 1) (eqb (c .kernel) 2) where
-  pick : (a b : Bool) → Proper n (cond a cauchy-point (cond b dogleg (steihaug (c .epsilon) (c .limit))) n radius g H)
-  pick true b = cauchy-proper n radius g H
-  pick false true = dogleg-proper n radius g H
-  pick false false = steihaug-proper (c .epsilon) (c .limit) n radius g H
+kernel-proper c n radius g H = pick (eqb (c .kernel) 1) (eqb (c .kernel) 2) (eqb (c .dogleg) 1) where
+  pick : (a b d : Bool) → Proper n (cond a cauchy-point (cond b (cond d dogleg textbook-dogleg) (steihaug (c .epsilon) (c .limit))) n radius g H)
+  pick true b d = cauchy-proper n radius g H
+  pick false true true = dogleg-proper n radius g H
+  pick false true false = textbook-proper n radius g H
+  pick false false d = steihaug-proper (c .epsilon) (c .limit) n radius g H
 
--- ---- a choice in range names a kernel
+-- ---- a choice in range names a kernel, and a dogleg
 
-pub in-range-known : (c : Choice) → in-range c ≡ true → known (c .kernel) ≡ true
+pub in-range-known : (c : Choice) → in-range c ≡ true → known c ≡ true
 unfolding in-range
 in-range-known c e = each-holds (ranges c) e .0
 
@@ -46,7 +49,7 @@ no-step n h g scratch = rw (eq-eqb n n refl)
 
 module _ (c : Choice) (n : ℕ) (radius : Float) (g H w : List Float) where
   -- past its checks the door is open
-  pub opened : {s : ℕ} → Lent n (length H) (length g) s (length w) → known (c .kernel) ≡ true → door c n radius g H w ≡ kernel c n radius g H
+  pub opened : {s : ℕ} → Lent n (length H) (length g) s (length w) → known c ≡ true → door c n radius g H w ≡ kernel c n radius g H
   unfolding door
   opened l k = rw (size-test (l .square), eq-eqb (length H) (n * n) (l .square .long), eq-eqb (length g) n (l .gradient), eq-eqb (length w) (room n) (l .roomy .long), k)
 
@@ -57,7 +60,7 @@ module _ (c : Choice) (n : ℕ) (radius : Float) (g H w : List Float) where
   unfolding door
   shut-size e = rw (sym (no-step n (length H) (length g) (length w)) ∙ e) (record { says = refl; lays = refl })
 
-  pub shut-kernel : sizes ≡ true → known (c .kernel) ≡ false → Laid (door c n radius g H w) (Refused Setting) w w
+  pub shut-kernel : sizes ≡ true → known c ≡ false → Laid (door c n radius g H w) (Refused Setting) w w
   unfolding door
   shut-kernel e k = rw (sym (no-step n (length H) (length g) (length w)) ∙ e, k) (record { says = refl; lays = refl })
 
@@ -71,13 +74,17 @@ module _ (c : Choice) (n : ℕ) (radius : Float) (g H : List Float) (r : Stepped
   unfolding kernel
   first a h = rw (eq-eqb (c .kernel) 1 a) h
 
-  pub second : (c .kernel ≡ 1 → ⊥) → c .kernel ≡ 2 → Laid (dogleg n radius g H) r w w′ → Chosen
+  pub second : (c .kernel ≡ 1 → ⊥) → c .kernel ≡ 2 → c .dogleg ≡ 1 → Laid (dogleg n radius g H) r w w′ → Chosen
   unfolding kernel
-  second a b h = rw (ne-eqb (c .kernel) 1 a, eq-eqb (c .kernel) 2 b) h
+  second a b d h = rw (ne-eqb (c .kernel) 1 a, eq-eqb (c .kernel) 2 b, eq-eqb (c .dogleg) 1 d) h
+
+  pub second-anew : (c .kernel ≡ 1 → ⊥) → c .kernel ≡ 2 → (c .dogleg ≡ 1 → ⊥) → Laid (textbook-dogleg n radius g H) r w w′ → Chosen
+  unfolding kernel
+  second-anew a b d h = rw (ne-eqb (c .kernel) 1 a, eq-eqb (c .kernel) 2 b, ne-eqb (c .dogleg) 1 d) h
 
   pub third : (c .kernel ≡ 1 → ⊥) → (c .kernel ≡ 2 → ⊥) → Laid (steihaug (c .epsilon) (c .limit) n radius g H) r w w′ → Chosen
   unfolding kernel
   third a b h = rw (ne-eqb (c .kernel) 1 a, ne-eqb (c .kernel) 2 b) h
 
-  pub through : {s : ℕ} → Lent n (length H) (length g) s (length w) → known (c .kernel) ≡ true → Chosen → Laid (door c n radius g H w) r w w′
+  pub through : {s : ℕ} → Lent n (length H) (length g) s (length w) → known c ≡ true → Chosen → Laid (door c n radius g H w) r w w′
   through l k h = rw (opened c n radius g H w l k) h

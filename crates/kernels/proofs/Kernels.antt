@@ -8,13 +8,12 @@ use lib.Dec.{eqb}
 use lib.ListN.{length, take, drop, length-drop, drop-of-length-le}
 use lib.Seq.{length-take-le, take-at, drop-append-add, take-all}
 use lib.Ieee.{Float}
-use borrow.Rule.Slice.PartMut.{midOf, putMid, same-len-mid}
+use borrow.Rule.Slice.PartMut.{midOf, putMid}
 use borrow.Author.Tests.{eqb-true}
 use Rattle.float.specs.Constants.{nought}
 use Rattle.float.specs.Numbers.{finite}
 use Rattle.vectors.specs.Vector.{tab, zeros, all-finite, norm}
-use Rattle.vectors.specs.Slots.{slot, Puts}
-use Rattle.kernels.specs.Workspace.{each}
+use Rattle.vectors.specs.Slots.{slot}
 use Rattle.vectors.specs.Refusal.{Answer, refused, given, Check, _if_, unless, judged, then, all-hold, untouched-by, size, sized, room, Square, Roomy}
 use Rattle.kernels.specs.Kernel.{Kernel, Made, made, handed-out, sound-step, positive, Proper, stepped, laid-out, Laid, handed-over, Took, kernel-checks, called}
 use Rattle.vectors.specs.declared.refusal.Refusal.{Refusal}
@@ -23,11 +22,7 @@ use Rattle.vectors.specs.declared.refusal.Verdict.{Verdict}
 use Rattle.vectors.specs.declared.refusal.Verdict.the-variants.{Passed, Failed}
 use Rattle.kernels.specs.declared.kernel.Stepped.{Stepped}
 use Rattle.kernels.specs.declared.kernel.Stepped.the-variants.{In, Refused}
-use Rattle.kernels.specs.declared.workspace.Op.the-variants.{Same}
-use Rattle.kernels.proofs.Ops.{each-same}
-use Rattle.vectors.proofs.Vectors.{length-tab}
 use Rattle.vectors.proofs.Norms.{norm-tells}
-use Rattle.vectors.proofs.Slots.{length-slot}
 use Rattle.vectors.proofs.Sizes.{each-holds, square-by}
 use Rattle.kernels.proofs.Rows.{low-room}
 
@@ -143,44 +138,34 @@ laid-length n (given m) w₁ w p l = ap (λ (k : ℕ). m .step ++ zeros (k - len
 pub laid-same : (n : ℕ) (a b : Answer Made) (r : Stepped) (w₁ w w′ : List Float) → Proper n b → a ≡ b → length w₁ ≡ length w → Laid a r w₁ w′ → Laid b r w w′
 laid-same n a b r w₁ w w′ p e l h = record { says = h .says ∙ ap stepped e; lays = h .lays ∙ ap (λ (x : Answer Made). laid-out x w₁) e ∙ laid-length n b w₁ w p l }
 
-pub slot-laid : (v u : List Float) (n : ℕ) → length v ≡ n → slot (v ++ u) n 0 ≡ v
-unfolding slot
-slot-laid v u n e = let none : 0 * n ≡ 0 = omega arith in rw none (take-at v u n e)
+-- `settle_by`: the norm of the step alone tells whether it is sound
+module _ (n passes : ℕ) (w : List Float) (long : Float) (is : long ≡ norm (slot w n 0)) where
+  known : (b : Bool) → finite long ≡ b → sound-step (slot w n 0) ≡ b
+  unfolding sound-step
+  known b t = sym (norm-tells (slot w n 0)) ∙ sym (ap finite is) ∙ t
 
--- `settle`: ys behind the step, and its norm, which alone tells whether it is sound
-module _ (n passes : ℕ) (w ys : List Float) (h : n ≤ length w) (z : ys ≡ zeros (length (midOf n (length w - n) w))) where
-  abbrev behind : List Float
-  behind = putMid n (length w - n) w ys
+  pub unsettled : (w′ : List Float) → finite long ≡ false → w′ ≡ zeros (length w) → Laid (handed-out (made passes (slot w n 0))) (Refused Range) w w′
+  unfolding handed-out
+  unsettled w′ t z = rw (known false t) (record { says = refl; lays = z })
 
-  is-laid : behind ≡ slot w n 0 ++ zeros (length w - length (slot w n 0))
-  unfolding slot
-  is-laid =
+  pub settled : (ys : List Float) → finite long ≡ true → n ≤ length w → ys ≡ zeros (length (midOf n (length w - n) w))
+      → Laid (handed-out (made passes (slot w n 0))) (In passes long) w (putMid n (length w - n) w ys)
+  unfolding handed-out slot
+  settled ys t h z =
       let none : 0 * n ≡ 0 = omega arith in
       let front : slot w n 0 ≡ take n w = rw none in
       let size-0 : length (take n w) ≡ n = length-take-le n w h in
       let size : length (drop n w) ≡ length w - n = length-drop n w in
-      let end : drop (length w - n) (drop n w) ≡ [] = drop-of-length-le (drop n w) {i = length w - n} (omega (arith, size)) in
+      let behind : drop (length w - n) (drop n w) ≡ [] = drop-of-length-le (drop n w) {i = length w - n} (omega (arith, size)) in
       let all : take (length w - n) (drop n w) ≡ drop n w = take-all (length w - n) (drop n w) (omega (arith, size)) in
       let zeroed : ys ≡ zeros (length w - length (take n w)) = z ∙ rw (all, size, size-0) in
-      rw (front, end, zeroed, append-nil)
-
-  module _ (long : Float) (is : long ≡ norm (slot behind n 0)) where
-    norm-known : long ≡ norm (slot w n 0)
-    norm-known = is ∙ ap norm (ap (λ (v : List Float). slot v n 0) is-laid ∙ slot-laid (slot w n 0) (zeros (length w - length (slot w n 0))) n (length-slot w n 0 (omega (arith, h))))
-
-    known : (b : Bool) → finite long ≡ b → sound-step (slot w n 0) ≡ b
-    unfolding sound-step
-    known b t = sym (norm-tells (slot w n 0)) ∙ sym (ap finite norm-known) ∙ t
-
-    pub unsettled : (w′ : List Float) → finite long ≡ false → w′ ≡ zeros (length behind) → Laid (handed-out (made passes (slot w n 0))) (Refused Range) w w′
-    unfolding handed-out zeros
-    unsettled w′ t e = rw (known false t) (record { says = refl; lays = e ∙ ap zeros (same-len-mid n (length w - n) w ys (ap length z ∙ length-tab (length (midOf n (length w - n) w)) (λ i. nought))) })
-
-    pub settled : finite long ≡ true → Laid (handed-out (made passes (slot w n 0))) (In passes long) w behind
-    unfolding handed-out
-    settled t = rw (known true t) (record { says = ap (In passes) norm-known; lays = is-laid })
+      rw (known true t) (record { says = ap (In passes) is; lays = rw (front, behind, zeroed, append-nil) })
 
 -- ---- how it ends for a direct caller
+
+pub slot-laid : (v u : List Float) (n : ℕ) → length v ≡ n → slot (v ++ u) n 0 ≡ v
+unfolding slot
+slot-laid v u n e = let none : 0 * n ≡ 0 = omega arith in rw none (take-at v u n e)
 
 zeros-join : (a b : ℕ) → zeros a ++ zeros b ≡ zeros (a + b)
 unfolding zeros tab

@@ -5,6 +5,9 @@ pub mod Cases
 pub mod Kernels
 pub mod CauchyPoints
 pub mod Doglegs
+pub mod Textbooks
+pub mod Legs
+pub mod Downhill
 pub mod Passes
 pub mod Choices
 pub mod Branches

@@ -4,5 +4,6 @@ pub mod Ratio
 pub mod Kernel
 pub mod CauchyPoint
 pub mod Dogleg
+pub mod Textbook
 pub mod Steihaug
 pub mod Choice

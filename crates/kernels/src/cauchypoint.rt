@@ -38,6 +38,21 @@ pub(crate) fn lay(n: usize, radius: f64, g: &[f64], h: &[f64], w: &mut [f64]) ->
 {
     let norm = vector::norm_any(g);
     let curvature = inner::weighted_unchecked(n, g, h, g);
+    lay_by(n, radius, curvature, norm, g, w)
+}
+
+// The same for who knows g·H·g and ‖g‖.
+pub(crate) fn lay_by(
+    n: usize,
+    radius: f64,
+    curvature: f64,
+    norm: f64,
+    g: &[f64],
+    w: &mut [f64],
+) -> Stepped
+    requires { ⌜ (length (now g) ≡ n) × Roomy n (length (now w)) ⌝ }
+    ensures { λ r. ⌜ Laid (CauchyPoint.along n radius curvature norm (now (g .entry))) r (now (w .entry)) (now (w .exit)) ⌝ }
+{
     workspace::put_times(n, w, 0, g, factor(radius, curvature, norm));
     kernel::settle(n, w, 0)
 }

@@ -4,6 +4,7 @@ use crate::dogleg;
 use crate::kernel;
 use crate::kernel::Stepped;
 use crate::steihaug;
+use crate::textbook;
 use vectors::refusal;
 use vectors::refusal::Refusal;
 use vectors::refusal::Verdict;
@@ -12,17 +13,21 @@ ghost use lib.ListN.{length};
 ghost use Rattle.vectors.specs.Refusal.{Square, Roomy};
 ghost use Rattle.kernels.specs.Kernel.{Laid, Took, called};
 ghost use Rattle.kernels.specs.Choice as Definition;
-ghost use Rattle.kernels.specs.Choice.{by-default, choice-of, in-range, door};
+ghost use Rattle.kernels.specs.Choice.{by-default, choice-of, choosing, in-range, door};
 
-// Which kernel, and what it is told beside the radius and its lists: epsilon and the limit are Steihaug's.
+// Which kernel, and what it is told beside the radius and its lists: epsilon and the limit are Steihaug's, and of the two
+// doglegs 1 is the ported one, 2 the textbook's.
 pub struct Choice {
     pub kernel: u64,
     pub epsilon: f64,
     pub limit: u64,
+    pub dogleg: u64,
 }
 
 impl Choice {
     pub const EPSILON: f64 = 1e-9;
+
+    pub const DOGLEG: u64 = 1;
 
     // The default for all but the kernel and Steihaug's iteration limit, which have none.
     pub fn new(kernel: u64, limit: u64) -> Self
@@ -39,18 +44,34 @@ impl Choice {
             kernel: kernel,
             epsilon: epsilon,
             limit: limit,
+            dogleg: Self::DOGLEG,
         }
+    }
+
+    // With this one of the two doglegs.
+    pub fn with_dogleg(mut self, dogleg: u64) -> Self
+        ensures { λ r. ⌜ r ≡ choosing dogleg self ⌝ }
+    {
+        self.dogleg = dogleg;
+        self
     }
 }
 
-// The number of a kernel.
-fn known(kernel: u64) -> bool
-    ensures { λ r. ⌜ r ≡ Definition.known kernel ⌝ }
+// One of the numbers from 1 to the last.
+fn among(number: u64, last: u64) -> bool
+    ensures { λ r. ⌜ r ≡ Definition.among number last ⌝ }
 {
-    if kernel < 1 {
+    if number < 1 {
         return false;
     }
-    kernel <= 3
+    number <= last
+}
+
+// The number of a kernel, and that of a dogleg, whatever the kernel.
+fn known(choice: Choice) -> bool
+    ensures { λ r. ⌜ r ≡ Definition.known choice ⌝ }
+{
+    refusal::both(among(choice.kernel, 3), among(choice.dogleg, 2))
 }
 
 // What a session asks of its choice, whatever the kernel.
@@ -59,7 +80,7 @@ pub fn in_range(choice: Choice) -> bool
 {
     refusal::all_hold(
         &[
-            known(choice.kernel),
+            known(choice),
             kernel::positive(choice.epsilon),
             choice.limit <= 10000,
         ],
@@ -73,19 +94,12 @@ fn asked(choice: Choice) -> bool
     if choice.kernel == 3 {
         return in_range(choice);
     }
-    known(choice.kernel)
+    known(choice)
 }
 
-// The kernel that is chosen, over lists of the right lengths. A number that is neither 1 nor 2 counts as 3 here; both callers
-// have looked.
-fn chosen(
-    choice: Choice,
-    n: usize,
-    radius: f64,
-    g: &[f64],
-    h: &[f64],
-    w: &mut [f64],
-) -> Stepped
+// The kernel that is chosen, over lists of the right lengths. A kernel that is neither 1 nor 2 counts as 3 here, and a dogleg
+// that is not 1 as 2; both callers have looked.
+fn chosen(choice: Choice, n: usize, radius: f64, g: &[f64], h: &[f64], w: &mut [f64]) -> Stepped
     requires { ⌜ Square n (length (now h)) × (length (now g) ≡ n) × Roomy n (length (now w)) ⌝ }
     ensures { λ r. ⌜ Laid (Definition.kernel choice n radius (now (g .entry)) (now (h .entry))) r (now (w .entry)) (now (w .exit)) ⌝ }
 {
@@ -93,13 +107,16 @@ fn chosen(
         return cauchypoint::lay(n, radius, g, h, w);
     }
     if choice.kernel == 2 {
-        return dogleg::lay(n, radius, g, h, w);
+        if choice.dogleg == 1 {
+            return dogleg::lay(n, radius, g, h, w);
+        }
+        return textbook::lay(n, radius, g, h, w);
     }
     steihaug::lay(n, radius, choice.epsilon, choice.limit, g, h, w)
 }
 
 // The sessions' door, for callers that have looked. Asked here is what no kernel can run without: n, the lengths, and the
-// kernel's number. A radius that is zero, negative or a NaN, an epsilon or a limit out of range, and a NaN in the gradient
+// numbers of the kernel and the dogleg. A radius that is zero, negative or a NaN, an epsilon or a limit out of range, and a NaN in the gradient
 // or the Hessian are taken as they come. The step is left in the scratch. It is public since the sessions stand in crates
 // of their own, and the language has no narrower word for that; other callers use `direct`.
 pub fn lay_unchecked(
@@ -116,7 +133,7 @@ pub fn lay_unchecked(
     if !kernel::sized(n, hessian.len(), gradient.len(), n, scratch.len()) {
         return Stepped::Refused(Refusal::Size);
     }
-    if !known(choice.kernel) {
+    if !known(choice) {
         return Stepped::Refused(Refusal::Setting);
     }
     chosen(choice, n, radius, gradient, hessian, scratch)

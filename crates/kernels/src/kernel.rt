@@ -11,6 +11,7 @@ ghost use Prim.Native.Nat.{_+_, _*_, _≤_};
 ghost use lib.Dec.{eqb};
 ghost use lib.ListN.{length, drop};
 ghost use lib.Ieee.{Float};
+ghost use Rattle.vectors.specs.Vector as Vector;
 ghost use Rattle.vectors.specs.Vector.{zeros};
 ghost use Rattle.vectors.specs.Slots.{slot};
 ghost use Rattle.vectors.specs.Refusal.{all-hold, size, room, judged};
@@ -89,14 +90,20 @@ pub(crate) fn settle(n: usize, w: &mut [f64], passes: u64) -> Stepped
     requires { ⌜ n ≤ length (now w) ⌝ }
     ensures { λ r. ⌜ Laid (handed-out (made passes (slot (now (w .entry)) n 0))) r (now (w .entry)) (now (w .exit)) ⌝ }
 {
-    // first, so that the machine can clear while it waits for the norm
-    vector::clear(&mut w[n..]);
     let norm = workspace::norm(n, w, 0);
-    // where a number of the step is not finite, its norm is not
+    settle_by(n, w, passes, norm)
+}
+
+// The same for a kernel that knows the norm of its step. Where a number of the step is not finite, its norm is not.
+pub(crate) fn settle_by(n: usize, w: &mut [f64], passes: u64, norm: f64) -> Stepped
+    requires { ⌜ (n ≤ length (now w)) × (norm ≡ Vector.norm (slot (now w) n 0)) ⌝ }
+    ensures { λ r. ⌜ Laid (handed-out (made passes (slot (now (w .entry)) n 0))) r (now (w .entry)) (now (w .exit)) ⌝ }
+{
     if !float::finite(norm) {
         vector::clear(w);
         return Stepped::Refused(Refusal::Range);
     }
+    vector::clear(&mut w[n..]);
     Stepped::In(passes, norm)
 }
 

@@ -1,4 +1,4 @@
-// The trust-region kernels of argmin's solver/trustregion, the workspace and the inverse below them.
+// The trust-region kernels of argmin's solver/trustregion, a second dogleg, the workspace and the inverse below them.
 pub mod cauchypoint;
 pub mod choice;
 pub mod dogleg;
@@ -6,6 +6,7 @@ mod inner;
 pub mod inverse;
 pub mod kernel;
 pub mod steihaug;
+pub mod textbook;
 mod workspace;
 
 ghost use mathlib.Core.Path.{_≡_};

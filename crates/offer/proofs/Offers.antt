@@ -116,14 +116,14 @@ module _ (asked : Asked) (n : ℕ) (point g H step trial w : List Float) where
   door-long : (m : Made) → opened ≡ given m → length (m .step) ≡ n
   unfolding door
   door-long m e =
-      given-long n (not (all-hold (size n ∷ sized (n * n) H ∷ sized n g ∷ sized (room n) w ∷ []))) (not (known (asked .choice .kernel)))
+      given-long n (not (all-hold (size n ∷ sized (n * n) H ∷ sized n g ∷ sized (room n) w ∷ []))) (not (known (asked .choice)))
       (kernel (asked .choice) n radius g H) m (kernel-proper (asked .choice) n radius g H) e
 
   sizes-lent : None checks → Lent n (length point) (length g) (length H) (length step) (length trial) (length w)
   sizes-lent none = lent-true n (length point) (length g) (length H) (length step) (length trial) (length w) (is-true _ (not-not (all-sized n point g H step trial w) (none .0)))
 
   -- by the chosen kernel itself, which a session's definitions speak of
-  pub offers-kernel : (asked .sound ≡ true → known (asked .choice .kernel) ≡ true) → offering asked n point g H step trial w ≡ unless checks (stepping (kernel (asked .choice)) (asked .allowance) (asked .state) n point g H)
+  pub offers-kernel : (asked .sound ≡ true → known (asked .choice) ≡ true) → offering asked n point g H step trial w ≡ unless checks (stepping (kernel (asked .choice)) (asked .allowance) (asked .state) n point g H)
   unfolding offering door
   offers-kernel k = unless-same checks (unless (step-checks (asked .allowance) (asked .state)) (then (offer n point) opened)) (stepping (kernel (asked .choice)) (asked .allowance) (asked .state) n point g H) by-kernel where
     by-kernel : None checks → unless (step-checks (asked .allowance) (asked .state)) (then (offer n point) opened) ≡ stepping (kernel (asked .choice)) (asked .allowance) (asked .state) n point g H

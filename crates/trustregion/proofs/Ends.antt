@@ -67,7 +67,7 @@ sound-small s e =
 -- ---- the proposal
 
 -- a sound session's settings name a kernel
-kernel-known : (s : Session) → sound s ≡ true → Choice.known (s .settings .choice .kernel) ≡ true
+kernel-known : (s : Session) → sound s ≡ true → Choice.known (s .settings .choice) ≡ true
 unfolding sound in-range
 kernel-known s e =
     let ranged = each-holds (sound-tests s) e .0 in

@@ -1,11 +1,11 @@
 -- `kernels::cauchypoint::cauchy_point` meets its contract. Assumes nothing.
 use borrow.Author.Needs.{needs}
-use Rattle.kernels.specs.Choice.{known, asked, kernel}
+use Rattle.kernels.specs.Choice.{among, known, asked, kernel}
 use Rattle.kernels.proofs.cauchypoint.cauchy_point.Statement.{statement}
 use Rattle.kernels.proofs.cauchypoint.cauchy_point.Tie as tie
 
 returns : tie.Need-returns
-unfolding known asked kernel
+unfolding among known asked kernel
 returns c = let asked = c .before .before .before .before in rw (asked .before .before .before .new .ensures) at (asked .direct .ensures)
 
 pub cauchy-point-spec : {M : Type 1} → statement M

@@ -6,15 +6,9 @@ use Rattle.kernels.proofs.cauchypoint.lay.Tie as tie
 
 returns : tie.Need-returns
 returns c =
-    let settled = c .before .before in
-    let put = settled .before .before .before .before in
-    let curved = put .before .before .before in
-    cauchy-laid _ _ _ _ _ _ _ _ _ _ _ (curved .weighted-unchecked .ensures) (curved .before .norm-any .ensures) (put .before .factor .ensures) (put .put-times .ensures) (put .put-times .kept .1 .0)
-    (settled .settle .ensures)
+    let laid = c .before .before in
+    let curved = laid .before .before in
+    cauchy-laid _ _ _ _ _ _ _ _ _ (curved .weighted-unchecked .ensures) (curved .before .norm-any .ensures) (laid .lay-by .ensures)
 
 pub lay-spec : {M : Type 1} → statement M
-lay-spec =
-    tie.close
-    (tie.spec
-    (λ c κs. search needs) (λ c κs. search needs) (λ c κs. search needs) (λ c κs. search needs) (λ c κs. search needs) (λ c. search needs)
-    returns)
+lay-spec = tie.close (tie.spec (λ c κs. search needs) (λ c κs. search needs) (λ c κs. search needs) (λ c. search needs) returns)

@@ -1,11 +1,11 @@
 -- `kernels::dogleg::dogleg` meets its contract. Assumes nothing.
 use borrow.Author.Needs.{needs}
-use Rattle.kernels.specs.Choice.{known, asked, kernel}
+use Rattle.kernels.specs.Choice.{among, known, asked, kernel}
 use Rattle.kernels.proofs.dogleg.dogleg.Statement.{statement}
 use Rattle.kernels.proofs.dogleg.dogleg.Tie as tie
 
 returns : tie.Need-returns
-unfolding known asked kernel
+unfolding among known asked kernel
 returns c = let asked = c .before .before .before .before in rw (asked .before .before .before .new .ensures) at (asked .direct .ensures)
 
 pub dogleg-spec : {M : Type 1} → statement M

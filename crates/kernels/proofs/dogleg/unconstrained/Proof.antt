@@ -4,15 +4,9 @@ use Rattle.kernels.proofs.Doglegs.{unconstraineds}
 use Rattle.kernels.proofs.dogleg.unconstrained.Statement.{statement}
 use Rattle.kernels.proofs.dogleg.unconstrained.Tie as tie
 
-returns : tie.Need-returns
-returns c =
-    let put = c .before .before in
-    let weighted = put .before .before in
-    unconstraineds _ _ _ _ _ _ _ (weighted .before .dot-any .ensures) (weighted .weighted-unchecked .ensures) (put .put-times .ensures)
-
 pub unconstrained-spec : {M : Type 1} → statement M
 unconstrained-spec =
     tie.close
     (tie.spec
-    (λ c κs. search needs) (λ c κs. search needs) (λ c κs. search needs) (λ c. search needs)
-    returns)
+    (λ c κs. search needs) (λ c κs. search needs) (λ c. search needs)
+    (λ c. let put = c .before .before in unconstraineds _ _ _ _ _ _ (put .before .dot-any .ensures) (put .put-times .ensures)))

@@ -1,11 +1,11 @@
 -- `kernels::steihaug::steihaug` meets its contract. Assumes nothing.
 use borrow.Author.Needs.{needs}
-use Rattle.kernels.specs.Choice.{known, in-range, asked, kernel}
+use Rattle.kernels.specs.Choice.{among, known, in-range, asked, kernel}
 use Rattle.kernels.proofs.steihaug.steihaug.Statement.{statement}
 use Rattle.kernels.proofs.steihaug.steihaug.Tie as tie
 
 returns : tie.Need-returns
-unfolding known in-range asked kernel
+unfolding among known in-range asked kernel
 returns c = let asked = c .before .before .before .before in rw (asked .before .before .before .of .ensures) at (asked .direct .ensures)
 
 pub steihaug-spec : {M : Type 1} → statement M
