@@ -33,7 +33,7 @@ int main(void) {
     double point[N] = { 10.0, 3.0 }, gradient[N], hessian[SQUARE];
     double step[N], trial[N], trial_gradient[N], trial_hessian[SQUARE], scratch[SCRATCH];
     /* five hidden trials in a row are enough: somebody must look at the markers */
-    mboyaxin_word words[MBOYAXIN_WORDS] = { [MBOYAXIN_LAYOUT] = MBOYAXIN_WORDS, [MBOYAXIN_KERNEL] = MBOYAXIN_STEIHAUG, [MBOYAXIN_LIMIT] = 10, [MBOYAXIN_ALLOWANCE] = 5 };
+    mboyaxin_word words[MBOYAXIN_WORDS] = { [MBOYAXIN_LAYOUT] = MBOYAXIN_WORDS, [MBOYAXIN_KERNEL] = MBOYAXIN_STEIHAUG, [MBOYAXIN_LIMIT] = 10, [MBOYAXIN_ALLOWANCE] = 5, [MBOYAXIN_WHICH_DOGLEG] = MBOYAXIN_PORTED_DOGLEG };
     double numbers[MBOYAXIN_NUMBERS] = { [MBOYAXIN_EPSILON] = 1e-9, [MBOYAXIN_COST] = cost_at(point, gradient, hessian) };
     const double settings[MBOYAXIN_TR_SETTINGS] = { [MBOYAXIN_TR_SET_RADIUS] = 1.0, [MBOYAXIN_TR_SET_MAX_RADIUS] = 100.0, [MBOYAXIN_TR_SET_ETA] = 0.125 };
     mboyaxin_word refusal = mboyaxin_trustregion_start(words, numbers, settings);

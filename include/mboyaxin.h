@@ -47,30 +47,36 @@ double mboyaxin_norm_any(const double *a, mboyaxin_word a_length);
 /* the largest magnitude: a NaN if one is there, +0 of none */
 double mboyaxin_largest(const double *v, mboyaxin_word v_length);
 
-/* ---- crates/foreign: the kernels, all of one shape; Cauchy and Dogleg pass over epsilon and limit */
+/* ---- crates/foreign: the kernels, all of one shape; Cauchy and both doglegs pass over epsilon and limit */
 
 typedef mboyaxin_word mboyaxin_kernel(mboyaxin_word n, double radius, double epsilon, mboyaxin_word limit, const double *gradient,
     mboyaxin_word gradient_length, const double *hessian, mboyaxin_word hessian_length, double *step, mboyaxin_word step_length, double *scratch,
     mboyaxin_word scratch_length);
-mboyaxin_kernel mboyaxin_cauchy_point, mboyaxin_dogleg, mboyaxin_steihaug;
+mboyaxin_kernel mboyaxin_cauchy_point, mboyaxin_dogleg, mboyaxin_textbook_dogleg, mboyaxin_steihaug;
 
 /* ---- crates/foreign_sessions
 
    A session is three lists that its owner keeps: words and numbers, the same for both kinds, which each call changes in place, and its kind's
-   own settings, which are only read. Before a start layout, kernel, limit, allowance, epsilon, cost and settings stand in their places; nothing
-   else is looked at. What a call does not tell is 0.
+   own settings, which are only read. Before a start layout, kernel, limit, allowance, which dogleg, epsilon, cost and settings stand in their
+   places; nothing else is looked at. What a call does not tell is 0.
 
    The words have grown. LAYOUT holds MBOYAXIN_WORDS, so that lists of another header are told apart: the first ones had five words, the kernel
-   first, and are refused by 2 at every call, with nothing written. A header with further words will have another MBOYAXIN_WORDS.
+   first, the next eight. They are refused by 2 at every call, with nothing written. A header with further words will have another
+   MBOYAXIN_WORDS.
 
    ALLOWANCE, 1 to 1000, is how many trials in a row may be answered with NaN, COUNT how many were: when they are equal a proposal is refused
-   by 9. Once the markers are seen again, put 0 into COUNT. */
+   by 9. Once the markers are seen again, put 0 into COUNT.
+
+   WHICH_DOGLEG is 1 for the ported one or 2 for the one with the textbook's first leg; anything else is refused by 2, whatever the kernel. A new
+   fit should take 2: where the border cuts the first leg the ported one may stand still or step too far. An old fit that must be repeated keeps
+   1. */
 
 enum {
     MBOYAXIN_LAYOUT,
     MBOYAXIN_KERNEL,
     MBOYAXIN_LIMIT,
     MBOYAXIN_ALLOWANCE,
+    MBOYAXIN_WHICH_DOGLEG,
     MBOYAXIN_PHASE,
     MBOYAXIN_COUNT,
     MBOYAXIN_SAID,
@@ -84,6 +90,9 @@ enum { MBOYAXIN_EPSILON, MBOYAXIN_RADIUS, MBOYAXIN_COST, MBOYAXIN_PROMISE, MBOYA
 
 /* the kernel */
 enum { MBOYAXIN_CAUCHY_POINT = 1, MBOYAXIN_DOGLEG, MBOYAXIN_STEIHAUG };
+
+/* which dogleg */
+enum { MBOYAXIN_PORTED_DOGLEG = 1, MBOYAXIN_TEXTBOOK_DOGLEG };
 
 /* the phase */
 enum { MBOYAXIN_READY, MBOYAXIN_AWAITING_COST, MBOYAXIN_AWAITING_DERIVATIVES };

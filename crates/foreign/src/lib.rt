@@ -16,6 +16,7 @@ ghost use Rattle.kernels.specs.Ratio.{reduction-ratio};
 ghost use Rattle.kernels.specs.Kernel.{called, bounded};
 ghost use Rattle.kernels.specs.CauchyPoint.{cauchy-point};
 ghost use Rattle.kernels.specs.Dogleg.{dogleg};
+ghost use Rattle.kernels.specs.Textbook.{textbook-dogleg};
 ghost use Rattle.kernels.specs.Steihaug.{steihaug};
 ghost use Rattle.kernels.specs.Inverse.{inverse-answer};
 ghost use Rattle.foreign.specs.Foreign as Foreign;
@@ -208,6 +209,23 @@ pub extern "C" fn mboyaxin_dogleg(
         r (now (step .entry)) (now (step .exit)) (now (scratch .entry)) (now (scratch .exit)) ⌝ }
 {
     stepped(kernels::dogleg::dogleg(n, radius, gradient, hessian, step, scratch))
+}
+
+#[no_mangle]
+pub extern "C" fn mboyaxin_textbook_dogleg(
+    n: usize,
+    radius: f64,
+    epsilon: f64,
+    limit: u64,
+    gradient: &[f64],
+    hessian: &[f64],
+    step: &mut [f64],
+    scratch: &mut [f64],
+) -> u64
+    ensures { λ r. ⌜ Numbered (called true textbook-dogleg n radius (now (gradient .entry)) (now (hessian .entry)) (now (step .entry)) (now (scratch .entry)))
+        r (now (step .entry)) (now (step .exit)) (now (scratch .entry)) (now (scratch .exit)) ⌝ }
+{
+    stepped(kernels::textbook::textbook_dogleg(n, radius, gradient, hessian, step, scratch))
 }
 
 #[no_mangle]

@@ -23,5 +23,6 @@ table =
     ∷ unique foreign.«mboyaxin_inverse».ended (λ M. foreign.«mboyaxin_inverse».spec) (λ w κs a g r. refl) (λ κs a r r₂ s s₂ p q. (alike (p .filled .says) (q .filled .says), λ i. tt & tt & alike (p .filled .leaves) (q .filled .leaves) i & alike (p .clears) (q .clears) i & tt))
     ∷ unique foreign.«mboyaxin_cauchy_point».ended (λ M. foreign.«mboyaxin_cauchy_point».spec) (λ w κs a g r. refl) (λ κs a r r₂ s s₂ p q. (alike (p .says) (q .says), λ i. tt & tt & tt & tt & tt & tt & alike (p .leaves) (q .leaves) i & alike (p .clears) (q .clears) i & tt))
     ∷ unique foreign.«mboyaxin_dogleg».ended (λ M. foreign.«mboyaxin_dogleg».spec) (λ w κs a g r. refl) (λ κs a r r₂ s s₂ p q. (alike (p .says) (q .says), λ i. tt & tt & tt & tt & tt & tt & alike (p .leaves) (q .leaves) i & alike (p .clears) (q .clears) i & tt))
+    ∷ unique foreign.«mboyaxin_textbook_dogleg».ended (λ M. foreign.«mboyaxin_textbook_dogleg».spec) (λ w κs a g r. refl) (λ κs a r r₂ s s₂ p q. (alike (p .says) (q .says), λ i. tt & tt & tt & tt & tt & tt & alike (p .leaves) (q .leaves) i & alike (p .clears) (q .clears) i & tt))
     ∷ unique foreign.«mboyaxin_steihaug».ended (λ M. foreign.«mboyaxin_steihaug».spec) (λ w κs a g r. refl) (λ κs a r r₂ s s₂ p q. (alike (p .says) (q .says), λ i. tt & tt & tt & tt & tt & tt & alike (p .leaves) (q .leaves) i & alike (p .clears) (q .clears) i & tt))
     ∷ []
