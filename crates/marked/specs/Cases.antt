@@ -1,16 +1,17 @@
--- Document 01's "Marked cases", in its order. Definitions only; that each definition gives what its case wants is proofs/Marked.antt.
+-- Document 01's "Marked cases", in its order, and behind them those of request Six. Definitions only; that each definition gives what its case wants is proofs/Marked.antt.
 use mathlib.Core.Bool.{true, false}
 use mathlib.Core.List.{List, [], _∷_}
-use Prim.Native.Nat.{ℕ}
+use Prim.Native.Nat.{ℕ, _^_}
 use lib.Ieee.{Float, binary64, round}
 use Rattle.float.specs.Constants.{nought, one, two, half, quarter, eighth, hundred, billionth}
 use Rattle.vectors.specs.Vector.{zeros}
 use Rattle.vectors.specs.Refusal.{Answer, refused, given, room}
-use Rattle.vectors.specs.declared.refusal.Refusal.the-variants.{Range}
+use Rattle.vectors.specs.declared.refusal.Refusal.the-variants.{Pivot, Range}
 use Rattle.kernels.specs.Kernel.{Made, made}
 use Rattle.kernels.specs.Choice.{by-default}
 use Rattle.kernels.specs.CauchyPoint.{cauchy-point}
 use Rattle.kernels.specs.Dogleg.{dogleg}
+use Rattle.kernels.specs.Textbook.{textbook-dogleg}
 use Rattle.kernels.specs.Steihaug.{steihaug}
 use Rattle.trustregion.specs.Settings.{settings-of}
 use Rattle.trustregion.specs.Session.{Judgement, judgement}
@@ -44,10 +45,10 @@ pub record Case : Type 0 where
   pub wants : Found
 
 -- "g = (3, 4); I the identity"
-abbrev g : List Float
+abbrev pub g : List Float
 g = (3 over 1) ∷ (4 over 1) ∷ []
 
-abbrev I : List Float
+abbrev pub I : List Float
 I = one ∷ nought ∷ nought ∷ one ∷ []
 
 abbrev -I : List Float
@@ -134,3 +135,36 @@ cases =
     ∷ record { gives = updated ((6 over 1) ∷ (4 over 1) ∷ []); wants = diagonal ((6 over 1) ∷ (4 over 1) ∷ []) (3 over 1) one }
     ∷ record { gives = updated ((4 over 1) ∷ (5 over 1) ∷ []); wants = sr1-session (refused Range) }
     ∷ []
+
+-- a matrix of ones, which has no inverse
+abbrev ones : List Float
+ones = one ∷ one ∷ one ∷ one ∷ []
+
+-- "With g = (3, 4), I and radius 2.5 it gives (−1.5, −2)."
+unfoldable pub textbook-example : Case
+unfolding _over_ minus_over_ textbook-dogleg
+textbook-example = record { gives = kernel (textbook-dogleg 2 (5 over 2) g I); wants = half-step 0 }
+
+-- The input of case 5, I and 1: (−0.6000000000000001, −0.8), where the ported one stands still.
+unfoldable pub textbook-moves : Case
+unfolding _over_ minus_over_ textbook-dogleg
+textbook-moves = record { gives = kernel (textbook-dogleg 2 (1 over 1) g I); wants = steps-to 0 ((minus 5404319552844596 over 2 ^ 53) ∷ (minus 7205759403792794 over 2 ^ 53) ∷ []) }
+
+-- I, 5: ‖pb‖ is the radius, (−3, −4).
+unfoldable pub textbook-whole : Case
+unfolding _over_ minus_over_ textbook-dogleg
+textbook-whole = record { gives = kernel (textbook-dogleg 2 (5 over 1) g I); wants = whole-step 0 }
+
+-- No inverse is taken where g·H·g is not above 0, so that none is refused; where it is above 0 it is.
+unfoldable pub textbook-inverses : List Case
+unfolding _over_ minus_over_ zeros textbook-dogleg
+textbook-inverses =
+    record { gives = kernel (textbook-dogleg 2 (5 over 2) g -I); wants = half-step 0 }
+    ∷ record { gives = kernel (textbook-dogleg 2 (5 over 2) g (zeros 4)); wants = half-step 0 }
+    ∷ record { gives = kernel (textbook-dogleg 2 (5 over 2) g ones); wants = kernel (refused Pivot) }
+    ∷ []
+
+-- A first leg that is zero, for radius/‖pu‖ is below every f64: 2^400, 2^-100, radius 2^-1074.
+unfoldable pub textbook-zero : Case
+unfolding _over_ minus_over_ textbook-dogleg
+textbook-zero = record { gives = kernel (textbook-dogleg 1 (1 over 2 ^ 1074) ((2 ^ 400 over 1) ∷ []) ((1 over 2 ^ 100) ∷ [])); wants = steps-to 0 ((minus 0 over 1) ∷ []) }
