@@ -1,12 +1,14 @@
-// The further settings of kinds 3 and 4: behind `limit` a word tells how many there are, and then these. Those that are
-// missing have the values of kinds 1 and 2, which tell none.
+// The further settings of kinds 3 and 4: behind `limit` a word tells how many there are, and then these in their order.
+// Those that are missing have the values of kinds 1 and 2, which tell none.
 use crate::script;
 use crate::script::Got;
 use crate::script::Script;
+use kernels::choice::Choice;
 use trustregion::settings::Settings;
 
 pub(crate) struct Further {
     pub(crate) allowance: u64,
+    pub(crate) dogleg: u64,
 }
 
 // The settings, and the words behind them.
@@ -23,7 +25,7 @@ pub(crate) fn are_told(kind: u64) -> bool {
 // How many a kind knows.
 fn known(kind: u64) -> u64 {
     if are_told(kind) {
-        return 1;
+        return 2;
     }
     0
 }
@@ -43,13 +45,16 @@ fn many(room: &mut [u8], kind: u64, script: Script) -> Got {
     Got { word: 0, script }
 }
 
-// Each in its place, of so many. However many are told, no more are read than there are places.
+// Each in its place, of so many. However many are told, no more are read than there are places. Both kinds of session have
+// one default for the allowance.
 fn settings(room: &mut [u8], many: u64, script: Script) -> Told {
     let allowance = setting(room, many, 0, Settings::ALLOWANCE, script);
-    let rest = allowance.script;
+    let dogleg = setting(room, many, 1, Choice::DOGLEG, allowance.script);
+    let rest = dogleg.script;
     Told {
         further: Further {
             allowance: allowance.word,
+            dogleg: dogleg.word,
         },
         script: rest,
     }

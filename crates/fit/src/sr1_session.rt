@@ -26,7 +26,8 @@ pub(crate) fn begin(
     cost: f64,
 ) -> Happened {
     let choice = Choice::of(kernel, numbers[4], limit);
-    let told = Settings::of(choice, numbers[0], numbers[1], numbers[2], numbers[3]);
+    let chosen = choice.with_dogleg(further.dogleg);
+    let told = Settings::of(chosen, numbers[0], numbers[1], numbers[2], numbers[3]);
     let settings = told.with_allowance(further.allowance);
     let start = sr1_trustregion::start(settings, cost);
     match start {

@@ -30,7 +30,8 @@ pub(crate) fn begin(
 ) -> Happened {
     let radius = numbers[0];
     let choice = Choice::of(kernel, numbers[3], limit);
-    let told = Settings::of(choice, radius, numbers[1], numbers[2]);
+    let chosen = choice.with_dogleg(further.dogleg);
+    let told = Settings::of(chosen, radius, numbers[1], numbers[2]);
     let settings = told.with_allowance(further.allowance);
     let start = trustregion_method::start(settings, cost);
     match start {
