@@ -1,5 +1,6 @@
 //! argmin's own kernels, timed, and beside them the Rattle ones (`crates/foreign`, which the script
-//! bench-argmin links). Both get the same inputs, in turns; the best round of each counts.
+//! bench-argmin links). Both get the same inputs, in turns; the best round of each counts. argmin has no
+//! second dogleg: it is timed beside our ported one, leg by leg and on all four together.
 //!
 //! argmin's side is what its `TrustRegion` runs for each step: an executor over the kernel, with
 //! the derivatives cloned, and a fresh vector for every operation. The arithmetic under it is
@@ -8,6 +9,7 @@
 use oracle::argmin_kernels;
 use oracle::random::{with_exponent, Random};
 use oracle::step::{Call, Kernel};
+use oracle::textbook::{self, Leg};
 use oracle::vector::{Matrix, Vector};
 use std::hint::black_box;
 use std::process::ExitCode;
@@ -20,7 +22,7 @@ const ROUNDS: usize = 5;
 const ROUND_SECONDS: f64 = 0.1;
 
 /// What the linked library exports: a function for each kernel, all of one shape. A slice is a
-/// pointer and a length. Cauchy and Dogleg pass over epsilon and limit. The answer is 0 where the
+/// pointer and a length. Cauchy and both doglegs pass over epsilon and limit. The answer is 0 where the
 /// step was written, else the refusal's number.
 type Linked = unsafe extern "C" fn(
     n: usize,
@@ -63,6 +65,7 @@ linked! {
     Cauchy: mboyaxin_cauchy_point,
     Dogleg: mboyaxin_dogleg,
     Steihaug: mboyaxin_steihaug,
+    Textbook: mboyaxin_textbook_dogleg,
 }
 
 /// Runs a linked kernel on lent vectors and leaves its step in `step`.
@@ -97,11 +100,42 @@ fn calls(kernel: Kernel, n: usize, random: &mut Random) -> Vec<Call> {
         let whole = inverse.times(&gradient).norm();
         let radius = match kernel {
             Kernel::Cauchy => 4.0 * gradient.norm(),
-            Kernel::Dogleg => 0.5 * whole,
+            Kernel::Dogleg | Kernel::Textbook => 0.5 * whole,
             Kernel::Steihaug => 1e6 * whole,
         };
         Call {
             kernel,
+            radius,
+            epsilon: 1e-9,
+            limit: n as u64,
+            gradient,
+            hessian,
+        }
+    };
+    (0..INPUTS).map(|_| call(random)).collect()
+}
+
+/// Calls of the second dogleg whose steps come from this leg.
+fn on_leg(leg: Leg, n: usize, random: &mut Random) -> Vec<Call> {
+    let call = |random: &mut Random| {
+        let gradient = Vector((0..n).map(|_| with_exponent(random, 0)).collect());
+        let mut hessian = definite(n, random);
+        let inverse = hessian.inverse().expect("a definite matrix has an inverse");
+        let whole = inverse.times(&gradient).norm();
+        let least = gradient.dot(&gradient) * gradient.norm();
+        let least = least / gradient.weighted_dot(&hessian, &gradient);
+        let radius = match leg {
+            Leg::Whole => 2.0 * whole,
+            Leg::Second => 0.5 * (least + whole),
+            _ => 0.5 * least,
+        };
+        if leg == Leg::Cauchy {
+            let turned = hessian.entries().iter().map(|x| -x);
+            hessian = Matrix::new(n, turned.collect());
+        }
+        assert_eq!(textbook::by_leg(&gradient, &hessian, radius).0, leg);
+        Call {
+            kernel: Kernel::Textbook,
             radius,
             epsilon: 1e-9,
             limit: n as u64,
@@ -144,8 +178,21 @@ fn main() -> ExitCode {
     for kernel in [Kernel::Cauchy, Kernel::Dogleg, Kernel::Steihaug] {
         for n in SIZES {
             let calls = calls(kernel, n, &mut random);
-            differing += bench(kernel, n, &calls);
+            differing += bench(kernel, &format!("{kernel:?}"), n, &calls);
         }
+    }
+    println!(
+        "{:9} {:>3} {:>6} {:>10} {:>10}",
+        "leg", "n", "passes", "Dogleg", "Textbook"
+    );
+    for n in SIZES {
+        let mut all = Vec::new();
+        for leg in [Leg::Cauchy, Leg::Whole, Leg::First, Leg::Second] {
+            let calls = on_leg(leg, n, &mut random);
+            differing += bench(Kernel::Textbook, &format!("{leg:?}"), n, &calls);
+            all.extend(calls);
+        }
+        differing += bench(Kernel::Textbook, "all four", n, &all);
     }
     if differing > 0 {
         println!("{differing} steps differ");
@@ -154,50 +201,62 @@ fn main() -> ExitCode {
     ExitCode::SUCCESS
 }
 
-/// Prints a line, and gives the number of calls whose steps differ.
-fn bench(kernel: Kernel, n: usize, calls: &[Call]) -> usize {
-    let by_argmin = || {
-        for call in calls {
-            // An unwanted answer would be a quick one.
-            let (step, _) = argmin_kernels::solve(black_box(call)).expect("a step");
-            black_box(step);
-        }
-    };
+/// Goes over all calls by a linked kernel.
+fn by_linked(linked: Linked, calls: &[Call]) -> impl FnMut() + '_ {
+    let n = calls[0].gradient.0.len();
     let mut step = vec![0.0; n];
     let mut scratch = vec![0.0; 2 * n * n + 8 * n];
-    let linked = linked(kernel);
-    let mut by_rattle = || {
+    move || {
         for call in calls {
             let answer = run_linked(black_box(linked), black_box(call), &mut step, &mut scratch);
             assert_eq!(answer, 0, "a step");
             black_box(&mut step);
         }
-    };
-    let goes = (ROUND_SECONDS / seconds(1, by_argmin)).ceil() as usize;
-    let (mut argmin, mut rattle) = (f64::INFINITY, f64::INFINITY);
+    }
+}
+
+/// argmin's own kernel, or for the second dogleg our ported one.
+fn other<'a>(kernel: Kernel, calls: &'a [Call]) -> Box<dyn FnMut() + 'a> {
+    if kernel == Kernel::Textbook {
+        return Box::new(by_linked(linked(Kernel::Dogleg), calls));
+    }
+    Box::new(move || {
+        for call in calls {
+            // An unwanted answer would be a quick one.
+            let (step, _) = argmin_kernels::solve(black_box(call)).expect("a step");
+            black_box(step);
+        }
+    })
+}
+
+/// Prints a line, and gives the number of calls whose steps differ: from argmin's, and those of the second
+/// dogleg from what the oracle works out.
+fn bench(kernel: Kernel, name: &str, n: usize, calls: &[Call]) -> usize {
+    let mut by_other = other(kernel, calls);
+    let linked = linked(kernel);
+    let mut by_rattle = by_linked(linked, calls);
+    let goes = (ROUND_SECONDS / seconds(1, &mut by_other)).ceil() as usize;
+    let (mut other, mut rattle) = (f64::INFINITY, f64::INFINITY);
     for _ in 0..ROUNDS {
-        argmin = argmin.min(seconds(goes, by_argmin));
+        other = other.min(seconds(goes, &mut by_other));
         rattle = rattle.min(seconds(goes, &mut by_rattle));
     }
     let nanoseconds = |seconds: f64| seconds * 1e9 / (goes * calls.len()) as f64;
-    let passes: u64 = calls.iter().map(passes).sum();
+    let right = |call: &Call| argmin_kernels::solve(call).expect("a step");
+    let passes: u64 = calls.iter().map(|call| right(call).1).sum();
     println!(
-        "{:9} {n:3} {:6.1} {:10.0} {:10.0}  ratio {:.2}",
-        format!("{kernel:?}"),
+        "{name:9} {n:3} {:6.1} {:10.0} {:10.0}  ratio {:.2}",
         passes as f64 / calls.len() as f64,
-        nanoseconds(argmin),
+        nanoseconds(other),
         nanoseconds(rattle),
-        rattle / argmin
+        rattle / other
     );
+    let mut step = vec![0.0; n];
+    let mut scratch = vec![0.0; 2 * n * n + 8 * n];
     let differs = |call: &&Call| {
         run_linked(linked, call, &mut step, &mut scratch);
-        let (right, _) = argmin_kernels::solve(call).expect("a step");
         let bits = |numbers: &[f64]| numbers.iter().map(|x| x.to_bits()).collect::<Vec<_>>();
-        bits(&step) != bits(&right.0)
+        bits(&step) != bits(&right(call).0 .0)
     };
     calls.iter().filter(differs).count()
-}
-
-fn passes(call: &Call) -> u64 {
-    argmin_kernels::solve(call).expect("a step").1
 }

@@ -1,13 +1,15 @@
 //! Whole fits, timed: what a laboratory waits for. argmin's `TrustRegion` and `SR1TrustRegion` and ours
 //! (`crates/foreign_sessions`, which the script bench-argmin links) fit the same function from the
 //! same point, trial by trial, in turns; the best round of each counts. Both ask for the cost, and for
-//! derivatives where they need them, of the same code, and its time is in both.
+//! derivatives where they need them, of the same code, and its time is in both. argmin has no second
+//! dogleg: a fit by it is timed beside ours by the ported one, and held against the oracle's.
 
 use argmin::core::{CostFunction, Error, Gradient, Hessian, Problem, Solver, State};
 use argmin::solver::quasinewton::SR1TrustRegion;
 use argmin::solver::trustregion::{CauchyPoint, Dogleg, Steihaug, TrustRegion, TrustRegionRadius};
 use oracle::argmin_kernels::KernelState;
 use oracle::random::{with_exponent, Random};
+use oracle::session::{Formulas, Kind, Phase, Settings, Station, PORTED, TEXTBOOK};
 use oracle::step::Kernel;
 use oracle::vector::{Matrix, Vector};
 use std::hint::black_box;
@@ -161,14 +163,54 @@ fn by_argmin(sr1: bool, kernel: Kernel, model: &Model, start: &Start) -> Vector 
         Kernel::Steihaug => Steihaug::new()
             .with_epsilon(EPSILON)
             .and_then(|kernel| by_kernel(sr1, kernel.with_max_iters(n), model, start)),
+        Kernel::Textbook => unreachable!("argmin has no second dogleg"),
     };
     end.expect("argmin's fit goes through")
+}
+
+// ---- the oracle
+
+/// The end of a fit by the second dogleg, as the request's text has it.
+fn by_oracle(sr1: bool, model: &Model, start: &Start) -> Vector {
+    let n = model.q.size() as u64;
+    let (kind, eta) = if sr1 {
+        let (factor, tol_grad) = (FACTOR, TOL_GRAD);
+        (Kind::Sr1 { factor, tol_grad }, SR1_ETA)
+    } else {
+        let max_radius = MAX_RADIUS;
+        (Kind::TrustRegion { max_radius }, ETA)
+    };
+    let settings = Settings {
+        kind,
+        kernel: 2,
+        radius: RADIUS,
+        eta,
+        epsilon: EPSILON,
+        limit: n,
+        allowance: ALLOWANCE,
+        dogleg: TEXTBOOK,
+    };
+    let (point, gradient) = (start.point.clone(), start.gradient.clone());
+    let station = Station::start(settings, start.cost, point, gradient, start.hessian.clone());
+    let mut station = station.expect("settings in range");
+    for _ in 0..TRIALS {
+        station.propose(n, &Formulas).expect("a proposal");
+        let cost = model.cost_at(&station.trial);
+        let gradient = sr1.then(|| model.gradient_at(&station.trial));
+        let verdict = station.answer(n, cost, gradient.as_ref(), &Formulas);
+        verdict.expect("a verdict");
+        if station.phase == Phase::Derivatives {
+            let (g, h) = (model.gradient_at(&station.point), model.hessian_at(&station.point));
+            station.renew(n, g, h).expect("derivatives in turn");
+        }
+    }
+    station.point
 }
 
 // ---- ours
 
 // include/mboyaxin.h says what each is given. A list is a pointer and its length.
-const WORDS: usize = 8;
+const WORDS: usize = 9;
 type List = *const f64;
 type Lent = *mut f64;
 type Words<'a> = &'a mut [u64; WORDS];
@@ -189,9 +231,9 @@ unsafe extern "C" {
         step: List, _: usize, trial: List, _: usize, gradient: Lent, _: usize, hessian: Lent, _: usize, scratch: Lent, _: usize) -> u64;
 }
 
-/// The phase's place among the words (how many there are, kernel, limit, allowance, phase, count, what was said, passes), and
-/// the phase in which derivatives are due.
-const PHASE: usize = 4;
+/// The phase's place among the words (how many there are, kernel, limit, allowance, which dogleg, phase, count, what was said,
+/// passes), and the phase in which derivatives are due.
+const PHASE: usize = 5;
 const AWAITING_DERIVATIVES: u64 = 2;
 /// So many NaN answers in a row are allowed: the most that may be.
 const ALLOWANCE: u64 = 1_000;
@@ -209,7 +251,13 @@ fn done(refusal: u64) {
 
 fn by_rattle(sr1: bool, kernel: Kernel, model: &Model, start: &Start, lists: &mut Lists) -> Vector {
     let n = model.q.size();
-    let words = [WORDS as u64, kernel as u64 + 1, n as u64, ALLOWANCE, 0, 0, 0, 0];
+    let (kernel, dogleg) = match kernel {
+        Kernel::Cauchy => (1, PORTED),
+        Kernel::Dogleg => (2, PORTED),
+        Kernel::Steihaug => (3, PORTED),
+        Kernel::Textbook => (2, TEXTBOOK),
+    };
+    let words = [WORDS as u64, kernel, n as u64, ALLOWANCE, dogleg, 0, 0, 0, 0];
     if sr1 {
         by_our_sr1(words, model, start, lists)
     } else {
@@ -301,20 +349,32 @@ fn bench(sr1: bool, kernel: Kernel, n: usize) {
         let diagonal = entries.map(|(k, &x)| if k % (n + 1) == 0 { x } else { 0.0 });
         start.hessian = Matrix::new(n, diagonal.collect());
     }
-    let mut lists = Lists {
+    let lent = || Lists {
         step: vec![0.0; n],
         trial: start.point.clone(),
         scratch: vec![0.0; 2 * n * n + 8 * n],
     };
-    let mut argmin = || by_argmin(sr1, kernel, black_box(&model), &start);
+    let (mut lists, mut others) = (lent(), lent());
+    let textbook = kernel == Kernel::Textbook;
+    let mut other = || {
+        if textbook {
+            by_rattle(sr1, Kernel::Dogleg, black_box(&model), &start, &mut others)
+        } else {
+            by_argmin(sr1, kernel, black_box(&model), &start)
+        }
+    };
     let mut rattle = || by_rattle(sr1, kernel, black_box(&model), &start, &mut lists);
     let bits = |x: Vector| x.0.iter().map(|x| x.to_bits()).collect::<Vec<_>>();
-    let end = argmin();
+    let end = if textbook {
+        by_oracle(sr1, &model, &start)
+    } else {
+        other()
+    };
     assert_ne!(bits(end.clone()), bits(start.point.clone()), "it moves");
     assert_eq!(bits(end), bits(rattle()), "both end at one point");
-    let fits = (ROUND_SECONDS / seconds(1, &mut argmin)).ceil() as usize;
+    let fits = (ROUND_SECONDS / seconds(1, &mut other)).ceil() as usize;
     let best = (0..ROUNDS).fold([f64::INFINITY; 2], |best, _| {
-        let [a, r] = [seconds(fits, &mut argmin), seconds(fits, &mut rattle)];
+        let [a, r] = [seconds(fits, &mut other), seconds(fits, &mut rattle)];
         [best[0].min(a), best[1].min(r)]
     });
     let [a, r] = best.map(|seconds| seconds * 1e9 / (fits * TRIALS) as f64);
@@ -337,6 +397,15 @@ fn main() {
             for n in SIZES {
                 bench(sr1, kernel, n);
             }
+        }
+    }
+    println!(
+        "{:14} {:8} {:>3} {:>10} {:>10}",
+        "", "", "n", "Dogleg", "Rattle"
+    );
+    for sr1 in [false, true] {
+        for n in SIZES {
+            bench(sr1, Kernel::Textbook, n);
         }
     }
 }

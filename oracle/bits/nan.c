@@ -106,9 +106,19 @@ static void see_lengths(const double *v) {
     }
 }
 
-/* A kernel hands out no NaN at all. */
+/* A kernel hands out no NaN at all. At n = 2 from numbers that lead to every leg of both doglegs, and that overflow or vanish there. */
 static void see_kernel(const char *name, mboyaxin_kernel *k) {
-    double v[3];
+    static const double some[] = { 1.0, -4.0, 0x1p-30, 0x1p511, 0x1p-1074 }, radii[] = { 2.0, 0x1p-500, 0x1p600 };
+    double v[6];
+    for (word i = 0; i < 3 * 5 * 5 * 5 * 5 * 5 * 5; i++) {
+        word at = i / 3;
+        for (int j = 0; j < 6; j++, at /= 5) v[j] = some[at % 5];
+        lend();
+        word refusal = k(2, radii[i % 3], 1e-9, 5, v, 2, v + 2, 4, lent, 2, lent + 4, 24);
+        if (refusal) see_refused(name, refusal, 24);
+        else for (int j = 0; j < 2; j++)
+            if (nan_bits(bits(lent[j]))) see(name, i, bits(lent[j]), 0);
+    }
     for (word i = 0; i < 2 * SOURCES * SOURCES * SOURCES; i++) {
         word n = 1 + i % 2;
         list(v, 3, i / 2);
@@ -145,6 +155,7 @@ static void see_made(void) {
     }
     see_kernel("cauchy_point", mboyaxin_cauchy_point);
     see_kernel("dogleg", mboyaxin_dogleg);
+    see_kernel("textbook_dogleg", mboyaxin_textbook_dogleg);
     see_kernel("steihaug", mboyaxin_steihaug);
 }
 

@@ -85,16 +85,28 @@ static word renewed(word n) {
 
 /* ---- stations */
 
+/* Every kernel, the dogleg in both ways; beside the others either may stand. */
+#define KERNELS 4
+static const struct { word kernel, dogleg; } choices[KERNELS] = {
+    { MBOYAXIN_CAUCHY_POINT, MBOYAXIN_TEXTBOOK_DOGLEG },
+    { MBOYAXIN_DOGLEG, MBOYAXIN_PORTED_DOGLEG },
+    { MBOYAXIN_STEIHAUG, MBOYAXIN_PORTED_DOGLEG },
+    { MBOYAXIN_DOGLEG, MBOYAXIN_TEXTBOOK_DOGLEG },
+};
+
 /* Good settings, and NaN in every list: what a call does not write must keep these bits. */
-static void station(const struct kind *k, word kernel, word phase) {
+static void station_by(const struct kind *k, word kernel, word dogleg, word phase) {
     static const double settings[2][MBOYAXIN_SR1_SETTINGS] = { { 1.0, 100.0, 0.125, 0.0 }, { 1.0, 0.5e-3, 1e-8, 0.0 } };
     now = (struct station){
-        .words = { [MBOYAXIN_LAYOUT] = MBOYAXIN_WORDS, [MBOYAXIN_KERNEL] = kernel, [MBOYAXIN_LIMIT] = 5, [MBOYAXIN_ALLOWANCE] = ALLOWANCE, [MBOYAXIN_PHASE] = phase },
+        .words = { [MBOYAXIN_LAYOUT] = MBOYAXIN_WORDS, [MBOYAXIN_KERNEL] = kernel, [MBOYAXIN_LIMIT] = 5, [MBOYAXIN_ALLOWANCE] = ALLOWANCE,
+            [MBOYAXIN_WHICH_DOGLEG] = dogleg, [MBOYAXIN_PHASE] = phase },
         .numbers[MBOYAXIN_EPSILON].x = 1e-9,
     };
     for (int i = 0; i < MBOYAXIN_SR1_SETTINGS; i++) now.settings[i].x = settings[k == &sr1][i];
     for (word i = MBOYAXIN_WORDS + MBOYAXIN_NUMBERS + MBOYAXIN_SR1_SETTINGS; i < CELLS; i++) cells(&now)[i] = sources[i % 4] + i;
 }
+
+static void station(const struct kind *k, word choice, word phase) { station_by(k, choices[choice].kernel, choices[choice].dogleg, phase); }
 
 /* The k-th list of so many numbers out of some. */
 static void fill(cell *v, int length, word k, const double *from, word count) {
@@ -119,11 +131,11 @@ static void see_answers(const struct kind *k, word n) {
 }
 
 static void see_proposals(const struct kind *k, word n, const double *from, word count, const double *radii, const double *costs, word few) {
-    for (word kernel = 1; kernel <= 3; kernel++)
+    for (word choice = 0; choice < KERNELS; choice++)
         for (word g = 0; g < power(count, n); g++)
             for (word h = 0; h < power(count, n * n); h++)
                 for (word i = 0; i < few * few; i++) {
-                    station(k, kernel, MBOYAXIN_READY);
+                    station(k, choice, MBOYAXIN_READY);
                     fill(now.gradient, n, g, from, count);
                     fill(now.hessian, n * n, h, from, count);
                     for (word m = 0; m < n; m++) now.point[m].x = g % 2 ? 1.0 : 0.0;
@@ -147,7 +159,7 @@ static void see_all_proposals(const struct kind *k) {
 static void see_phases(const struct kind *k) {
     for (word i = 0; i < power(SOURCES, 5); i++) {
         word at = i;
-        station(k, 1, MBOYAXIN_AWAITING_COST);
+        station(k, 0, MBOYAXIN_AWAITING_COST);
         for (int j = 0; j < 4; j++, at /= SOURCES) now.numbers[MBOYAXIN_RADIUS + j].w = sources[at % SOURCES];
         now.step[0].x = now.trial[0].x = now.gradient[0].x = now.hessian[0].x = 1.0;
         now.new_gradient[0].x = 3.0;
@@ -159,7 +171,7 @@ static void see_phases(const struct kind *k) {
 static void see_starts(const struct kind *k) {
     for (word i = 0; i < power(SOURCES, 5); i++) {
         word at = i;
-        station(k, 1, MBOYAXIN_READY);
+        station(k, 0, MBOYAXIN_READY);
         for (int j = 0; j < 4; j++, at /= SOURCES) {
             cell *c = k == &sr1 || j < MBOYAXIN_TR_SETTINGS ? &now.settings[j] : &now.numbers[MBOYAXIN_EPSILON];
             c->w = sources[at % SOURCES];
@@ -176,14 +188,14 @@ static void see_updates(void) {
     for (word i = 0; i < 3 * power(SOURCES, 5); i++) {
         word at = i / 3;
         cell *lists[4] = { now.step, now.gradient, now.hessian, now.new_gradient };
-        station(&sr1, 1, MBOYAXIN_AWAITING_COST);
+        station(&sr1, 0, MBOYAXIN_AWAITING_COST);
         for (int j = 0; j < 4; j++, at /= SOURCES) lists[j][0].w = sources[at % SOURCES];
         now.trial[0].w = sources[at];
         now.numbers[MBOYAXIN_RADIUS].x = now.numbers[MBOYAXIN_PROMISE].x = now.numbers[MBOYAXIN_NORM].x = 1.0;
         answered(&sr1, 1, costs[i % 3]);
     }
     for (word i = 0; i < power(4, 10); i++) {
-        station(&sr1, 1, MBOYAXIN_AWAITING_COST);
+        station(&sr1, 0, MBOYAXIN_AWAITING_COST);
         fill(now.step, 2, i, some, 4);
         fill(now.gradient, 2, i >> 4, some, 4);
         fill(now.hessian, 4, i >> 8, some, 4);
@@ -197,7 +209,7 @@ static void see_updates(void) {
 /* TrustRegion's derivatives. */
 static void see_renewals(void) {
     for (word i = 0; i < power(SOURCES, 2); i++) {
-        station(&trustregion, 1, MBOYAXIN_AWAITING_DERIVATIVES);
+        station(&trustregion, 0, MBOYAXIN_AWAITING_DERIVATIVES);
         now.numbers[MBOYAXIN_RADIUS].x = 1.0;
         now.new_gradient[0].w = sources[i % SOURCES];
         now.new_hessian[0].w = sources[i / SOURCES];
@@ -205,34 +217,42 @@ static void see_renewals(void) {
     }
 }
 
-/* Calls out of turn, phases and kernels that are none, wrong n; NaN in every list. */
+/* Calls out of turn, phases, kernels and doglegs that are none, wrong n; NaN in every list. A dogleg that is none is refused by 2 whatever the
+   kernel and the phase, by a start too. */
 static void see_out_of_turn(const struct kind *k) {
-    static const word phases[] = { 0, 1, 2, 3, 1UL << 63 }, sizes[] = { 0, 1, 2 };
+    static const word phases[] = { 0, 1, 2, 3, 1UL << 63 }, sizes[] = { 0, 1, 2 }, doglegs[] = { 0, 1, 2, 3, 4, 1UL << 32 | 1, 1UL << 32 | 2, ~0UL };
     for (word kernel = 0; kernel < 5; kernel++)
-        for (int phase = 0; phase < 5; phase++)
-            for (int size = 0; size < 3; size++)
-                for (int call = 0; call < 3; call++) {
-                    station(k, kernel, phases[phase]);
-                    now.numbers[MBOYAXIN_RADIUS].x = now.numbers[MBOYAXIN_COST].x = 1.0;
-                    now.numbers[MBOYAXIN_PROMISE].w = 0xfff8000000000001;
-                    now.numbers[MBOYAXIN_NORM].w = 0x7ff0000000000002;
-                    if (call == 0) proposed(k, sizes[size]);
-                    else if (call == 1) answered(k, sizes[size], number(0xfff8000000000003));
-                    else if (k == &trustregion) renewed(sizes[size]);
-                }
+        for (word dogleg = 0; dogleg < sizeof doglegs / sizeof(word); dogleg++)
+            for (int phase = 0; phase < 5; phase++)
+                for (int size = 0; size < 3; size++)
+                    for (int call = 0; call < 4; call++) {
+                        word refusal = 0, known = kernel >= 1 && kernel <= 3 && (doglegs[dogleg] == 1 || doglegs[dogleg] == 2);
+                        station_by(k, kernel, doglegs[dogleg], phases[phase]);
+                        now.numbers[MBOYAXIN_RADIUS].x = now.numbers[MBOYAXIN_COST].x = 1.0;
+                        now.numbers[MBOYAXIN_PROMISE].w = 0xfff8000000000001;
+                        now.numbers[MBOYAXIN_NORM].w = 0x7ff0000000000002;
+                        if (call == 0) refusal = proposed(k, sizes[size]);
+                        else if (call == 1) refusal = answered(k, sizes[size], number(0xfff8000000000003));
+                        else if (call == 2 && k == &trustregion) refusal = renewed(sizes[size]);
+                        else if (call == 3) refusal = started(k);
+                        else continue;
+                        /* An n of 0 may be told first; what else refuses a call with known ones is looked at elsewhere. */
+                        word right = known ? (call == 3 ? 0 : refusal) : call != 3 && sizes[size] == 0 && refusal == 1 ? 1 : 2;
+                        if (refusal != right) see(k->name, doglegs[dogleg], refusal, right);
+                    }
 }
 
 /* Every call with the count below, at and above the allowance, and with words of another layout; NaN in every list. A proposal at the
    allowance is refused by 9 and leaves the scratch its bits, also where the kernel would have refused. */
 static void see_hidden(const struct kind *k) {
-    static const word layouts[] = { MBOYAXIN_WORDS, 0, 1, 2, 3, 5, 1UL << 32 | MBOYAXIN_WORDS }, counts[] = { 0, 1, ALLOWANCE, ALLOWANCE + 1, ~0UL };
-    for (word kernel = 1; kernel <= 3; kernel++)
+    static const word layouts[] = { MBOYAXIN_WORDS, 0, 1, 2, 3, 5, 8, 1UL << 32 | MBOYAXIN_WORDS }, counts[] = { 0, 1, ALLOWANCE, ALLOWANCE + 1, ~0UL };
+    for (word choice = 0; choice < KERNELS; choice++)
         for (word layout = 0; layout < sizeof layouts / sizeof(word); layout++)
             for (word count = 0; count < sizeof counts / sizeof(word); count++)
                 for (word phase = 0; phase < 3; phase++)
                     for (int call = 0; call < 3; call++)
                         for (int i = 0; i < SOURCES; i++) {
-                            station(k, kernel, phase);
+                            station(k, choice, phase);
                             now.words[MBOYAXIN_LAYOUT] = layouts[layout];
                             now.words[MBOYAXIN_COUNT] = counts[count];
                             now.numbers[MBOYAXIN_RADIUS].x = now.numbers[MBOYAXIN_COST].x = 1.0;

@@ -91,7 +91,8 @@ pub fn report_sessions(count: u64, seed: u64, out: &mut impl Write) -> io::Resul
 #[cfg(test)]
 mod tests {
     use super::*;
-    use crate::{scripts, special};
+    use crate::session::{PORTED, TEXTBOOK};
+    use crate::{scripts, special, standing};
 
     #[test]
     fn argmin_and_document_agree() {
@@ -105,6 +106,18 @@ mod tests {
         let mut out = Vec::new();
         let agree = report_sessions(3000, 1, &mut out).unwrap();
         assert!(agree, "{}", String::from_utf8(out).unwrap());
+    }
+
+    /// The fit that stood on its start stands by argmin's own code too.
+    #[test]
+    fn the_standing_fit_agrees() {
+        for dogleg in [PORTED, TEXTBOOK] {
+            let (mut by_argmin, mut by_formulas) = (Vec::new(), Vec::new());
+            let input = standing::input(dogleg);
+            replay::answer(&input, &Argmin, &mut by_argmin).unwrap();
+            replay::answer(&input, &Formulas, &mut by_formulas).unwrap();
+            assert!(by_argmin == by_formulas);
+        }
     }
 
     #[test]

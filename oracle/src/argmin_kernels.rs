@@ -3,6 +3,7 @@
 
 use crate::argmin_vector::NoPivot;
 use crate::step::{Call, Kernel};
+use crate::textbook;
 use crate::vector::{Matrix, Vector};
 use argmin::core::{Error, Executor, Gradient, Hessian, IterState, Solver, State};
 use argmin::solver::trustregion::{CauchyPoint, Dogleg, Steihaug, TrustRegionRadius};
@@ -13,6 +14,11 @@ use std::sync::Once;
 /// The step and its passes, or refusal 6 or 7.
 pub fn solve(call: &Call) -> Result<(Vector, u64), u8> {
     let found = match call.kernel {
+        // argmin has none.
+        Kernel::Textbook => {
+            let step = textbook::solve(&call.gradient, &call.hessian, call.radius)?;
+            return Ok((step, 0));
+        }
         Kernel::Cauchy => run(CauchyPoint::new(), call),
         Kernel::Dogleg => run(Dogleg::new(), call),
         Kernel::Steihaug => Steihaug::new()
@@ -26,7 +32,7 @@ pub fn solve(call: &Call) -> Result<(Vector, u64), u8> {
     // The other two are no iterations, and document 01 counts none for them.
     let passes = match call.kernel {
         Kernel::Steihaug => iterations,
-        Kernel::Cauchy | Kernel::Dogleg => 0,
+        Kernel::Cauchy | Kernel::Dogleg | Kernel::Textbook => 0,
     };
     Ok((step, passes))
 }

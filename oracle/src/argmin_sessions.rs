@@ -4,9 +4,11 @@
 use crate::argmin_kernels::{self, KernelState};
 use crate::session::{Engine, Kind, Station, Tried, Verdict};
 use crate::step::{Call, Kernel};
+use crate::textbook;
 use crate::vector::{Matrix, Vector};
 use argmin::core::{
-    CostFunction, Error, Gradient, Hessian, Problem, Solver, State, TerminationStatus, KV,
+    CostFunction, Error, Gradient, Hessian, Problem, Solver, State, TerminationReason,
+    TerminationStatus, KV,
 };
 use argmin::solver::quasinewton::SR1TrustRegion;
 use argmin::solver::trustregion::{
@@ -199,6 +201,37 @@ enum Inner {
     Cauchy(CauchyPoint<f64>),
     Dogleg(Dogleg<f64>),
     Steihaug(Steihaug<Vector, f64>),
+    Textbook(Textbook),
+}
+
+/// The second dogleg, for argmin's solvers to ask: they take any kernel, and judge its step as they
+/// judge those of their own.
+#[derive(Clone, Default)]
+struct Textbook {
+    radius: f64,
+}
+
+impl Solver<Answers, KernelState> for Textbook {
+    fn name(&self) -> &str {
+        "textbook"
+    }
+
+    fn next_iter(&mut self, _problem: &mut Problem<Answers>, mut state: KernelState) -> Iterated {
+        let gradient = state.take_gradient().ok_or("a state without a gradient")?;
+        let hessian = state.take_hessian().ok_or("a state without a Hessian")?;
+        let step = textbook::solve(&gradient, &hessian, self.radius);
+        let step = step.map_err(|_| "a proposal without an inverse")?;
+        Ok((state.param(step), None))
+    }
+
+    /// It is no iteration.
+    fn terminate(&mut self, state: &KernelState) -> TerminationStatus {
+        if state.get_iter() == 0 {
+            TerminationStatus::NotTerminated
+        } else {
+            TerminationStatus::Terminated(TerminationReason::MaxItersReached)
+        }
+    }
 }
 
 impl Watched {
@@ -211,6 +244,7 @@ impl Watched {
                     let kernel = Steihaug::new().with_epsilon(call.epsilon)?;
                     Inner::Steihaug(kernel.with_max_iters(call.limit))
                 }
+                Kernel::Textbook => Inner::Textbook(Textbook::default()),
             },
             watch: Rc::default(),
         })
@@ -224,6 +258,7 @@ impl TrustRegionRadius<f64> for Watched {
             Inner::Cauchy(kernel) => kernel.set_radius(radius),
             Inner::Dogleg(kernel) => kernel.set_radius(radius),
             Inner::Steihaug(kernel) => kernel.set_radius(radius),
+            Inner::Textbook(kernel) => kernel.radius = radius,
         }
     }
 }
@@ -236,6 +271,7 @@ impl Watched {
             Inner::Cauchy(kernel) => kernel,
             Inner::Dogleg(kernel) => kernel,
             Inner::Steihaug(kernel) => kernel,
+            Inner::Textbook(kernel) => kernel,
         }
     }
 }
@@ -265,7 +301,7 @@ impl Solver<Answers, KernelState> for Watched {
 mod tests {
     use super::*;
     use crate::random::Random;
-    use crate::session::{Formulas, Phase, Proposal};
+    use crate::session::{Formulas, Phase, Proposal, PORTED, TEXTBOOK};
     use crate::sessions;
 
     /// A session by the formulas, and the answers that its trials were given.
@@ -280,7 +316,9 @@ mod tests {
     /// Up to twenty trials without anything between them.
     fn run(seed: u64) -> Option<Run> {
         let mut random = Random::new(seed);
-        let start = sessions::sound_station(&mut random);
+        let mut start = sessions::sound_station(&mut random);
+        // argmin's solver goes on and on with the second dogleg as with its own kernels.
+        start.settings.dogleg = if seed % 2 == 0 { TEXTBOOK } else { PORTED };
         let answers = Answers::default();
         let mut run = Run {
             end: start.clone(),
@@ -339,10 +377,12 @@ mod tests {
     #[test]
     fn whole_runs_agree() {
         let (mut runs, mut accepted) = ([0; 2], 0);
+        let mut textbook = 0;
         for run in (0..3000).filter_map(run) {
             let end = run.end.clone();
             let settings = end.settings;
             accepted += run.accepted;
+            textbook += u64::from(run.start.call().kernel == Kernel::Textbook);
             let kernel = Watched::new(&run.start.call()).unwrap();
             let watch = kernel.watch.clone();
             let continued = match settings.kind {
@@ -378,5 +418,6 @@ mod tests {
             runs[0] > 300 && runs[1] > 300 && accepted > 2000,
             "{runs:?} {accepted}"
         );
+        assert!(textbook > 100, "{textbook}");
     }
 }

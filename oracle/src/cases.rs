@@ -578,7 +578,7 @@ pub(crate) fn hessian(random: &mut Random, n: usize) -> Vec<f64> {
     h
 }
 
-fn diagonal(n: usize, mut entry: impl FnMut(usize) -> f64) -> Vec<f64> {
+pub(crate) fn diagonal(n: usize, mut entry: impl FnMut(usize) -> f64) -> Vec<f64> {
     let mut h = vec![0.0; n * n];
     for i in 0..n {
         h[i * n + i] = entry(i);
@@ -601,7 +601,7 @@ fn gram(random: &mut Random, n: usize, rank: usize) -> Vec<f64> {
     h
 }
 
-fn definite(random: &mut Random, n: usize) -> Vec<f64> {
+pub(crate) fn definite(random: &mut Random, n: usize) -> Vec<f64> {
     let mut h = gram(random, n, n);
     let shift = random.pick(&[0.0, 1.0, 1.0, 16.0, 0.001]);
     for i in 0..n {
@@ -610,7 +610,7 @@ fn definite(random: &mut Random, n: usize) -> Vec<f64> {
     h
 }
 
-fn symmetric(random: &mut Random, n: usize) -> Vec<f64> {
+pub(crate) fn symmetric(random: &mut Random, n: usize) -> Vec<f64> {
     let kind = random.pick(&[Whole, Ordinary, Wide]);
     let mut h = vec![0.0; n * n];
     for i in 0..n {
@@ -624,7 +624,7 @@ fn symmetric(random: &mut Random, n: usize) -> Vec<f64> {
 }
 
 /// Half of full rank at most, or a row twice.
-fn low_rank(random: &mut Random, n: usize) -> Vec<f64> {
+pub(crate) fn low_rank(random: &mut Random, n: usize) -> Vec<f64> {
     if random.once_in(2) {
         let sign = random.pick(&[1.0, -1.0]);
         return gram(random, n, n / 2).iter().map(|x| sign * x).collect();
@@ -642,7 +642,7 @@ fn hilbert(n: usize) -> Vec<f64> {
     (0..n * n).map(|k| 1.0 / place(k)).collect()
 }
 
-fn ill_conditioned(random: &mut Random, n: usize) -> Vec<f64> {
+pub(crate) fn ill_conditioned(random: &mut Random, n: usize) -> Vec<f64> {
     match random.below(3) {
         0 => hilbert(n),
         1 => {
@@ -662,7 +662,7 @@ fn ill_conditioned(random: &mut Random, n: usize) -> Vec<f64> {
 }
 
 /// A multiple of the identity, but for the last digits: Dogleg's two points nearly meet.
-fn near_identity(random: &mut Random, n: usize) -> Vec<f64> {
+pub(crate) fn near_identity(random: &mut Random, n: usize) -> Vec<f64> {
     let other = Ordinary.number(random).abs();
     let x = random.pick(&[1.0, 3.0, 0.1, 7.0, other]);
     let mut h = diagonal(n, |_| x);
@@ -709,7 +709,7 @@ fn radius(random: &mut Random, case: &Case) -> f64 {
 }
 
 /// The number itself or one of its two neighbours.
-fn beside(random: &mut Random, x: f64) -> f64 {
+pub(crate) fn beside(random: &mut Random, x: f64) -> f64 {
     match random.below(4) {
         0 => x.next_up(),
         1 => x.next_down(),

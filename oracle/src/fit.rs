@@ -6,7 +6,7 @@
 use crate::input::words;
 use crate::random::Random;
 use crate::replay::{self, Call};
-use crate::session::{Formulas, Kind, Phase, Settings, Station, LARGEST_ALLOWANCE};
+use crate::session::{Formulas, Kind, Phase, Settings, Station, LARGEST_ALLOWANCE, PORTED};
 use crate::vector::{Matrix, Vector};
 
 const SIZE: usize = 6;
@@ -31,6 +31,7 @@ pub fn input() -> Vec<u8> {
         epsilon: 1e-9,
         limit: 12,
         allowance: LARGEST_ALLOWANCE,
+        dogleg: PORTED,
     };
     let cost = fit.cost(&point);
     let (gradient, hessian) = fit.derivatives(&point);

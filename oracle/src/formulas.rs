@@ -2,6 +2,7 @@
 //! files, so that text and files can be held against each other. Letters are the document's.
 
 use crate::step::{Call, Kernel};
+use crate::textbook;
 use crate::vector::{root, Matrix, Vector};
 
 /// The step and its passes, or refusal 6 or 7.
@@ -11,10 +12,12 @@ pub fn solve(call: &Call) -> Result<(Vector, u64), u8> {
         Kernel::Cauchy => Ok((cauchy(g, h, radius), 0)),
         Kernel::Dogleg => Ok((dogleg(g, h, radius)?, 0)),
         Kernel::Steihaug => steihaug(g, h, radius, call.epsilon, call.limit),
+        // The request's own, which stands in no document.
+        Kernel::Textbook => Ok((textbook::solve(g, h, radius)?, 0)),
     }
 }
 
-fn cauchy(g: &Vector, h: &Matrix, radius: f64) -> Vector {
+pub(crate) fn cauchy(g: &Vector, h: &Matrix, radius: f64) -> Vector {
     let w = g.weighted_dot(h, g);
     let norm = g.norm();
     let tau = if w <= 0.0 {
@@ -142,7 +145,7 @@ fn forward(roots: &[f64]) -> Result<f64, u8> {
     best.ok_or(7)
 }
 
-fn square(x: f64) -> f64 {
+pub(crate) fn square(x: f64) -> f64 {
     x * x
 }
 
@@ -150,14 +153,14 @@ fn cube(x: f64) -> f64 {
     (x * x) * x
 }
 
-fn times(a: &Vector, x: f64) -> Vector {
+pub(crate) fn times(a: &Vector, x: f64) -> Vector {
     Vector(a.0.iter().map(|y| y * x).collect())
 }
 
-fn plus(a: &Vector, b: &Vector) -> Vector {
+pub(crate) fn plus(a: &Vector, b: &Vector) -> Vector {
     Vector(a.0.iter().zip(&b.0).map(|(x, y)| x + y).collect())
 }
 
-fn minus(a: &Vector, b: &Vector) -> Vector {
+pub(crate) fn minus(a: &Vector, b: &Vector) -> Vector {
     Vector(a.0.iter().zip(&b.0).map(|(x, y)| x - y).collect())
 }

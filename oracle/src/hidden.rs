@@ -647,11 +647,15 @@ fn bad_words(kind: u64) -> Vec<Marked> {
         ..of(kind, &[2, 1, 1])
     };
     let mut all = vec![
-        // More further settings than there are, also where the start would be refused.
-        of(kind, &[2, 1, 1]).script().propose().says("bad"),
+        // Two further settings were bad when these were made; now the second one chooses the dogleg.
+        of(kind, &[2, 1, 1])
+            .script()
+            .propose()
+            .says("start proposed | cost 0"),
+        // More than there are.
         of(kind, &[far, 1]).script().propose().says("bad"),
         of(kind, &[u64::MAX, 1]).script().propose().says("bad"),
-        no_kernel.script().propose().says("bad"),
+        no_kernel.script().propose().says("2"),
         // Ends before the further settings, inside them, and behind them.
         ends(&[]).says("bad"),
         ends(&[1]).says("bad"),

@@ -1,9 +1,10 @@
 //! The developers' oracle: its words are in README.md and below.
 
+use oracle::session::{PORTED, TEXTBOOK};
 use oracle::step::{self, Answer};
 use oracle::{
-    calls, cases, damaged, decimals, fit, formulas, leaves, pivots, replay, roots, scripts,
-    sessions, slips, smooth, special, table,
+    calls, cases, damaged, decimals, fit, formulas, geometry, leaves, legs, pivots, replay, roots,
+    scripts, sessions, slips, smooth, special, standing, table, textbook_slips,
 };
 use std::cell::RefCell;
 use std::env;
@@ -27,6 +28,8 @@ usage: oracle leaves [--counts]    answer the calls on standard input, as progra
                                    standard error
        oracle session SEED         write an input of program `replay`
        oracle fit-example          write the example of program `replay`
+       oracle standing CHOICE      write the fit that stood on its start, for program `replay`: by the
+                                   ported dogleg (1) or the second one (2)
        oracle replay               answer an input of it, by argmin's own code where that is built
                                    in, else by the formulas
        oracle scripts COUNT SEED [KIND]
@@ -35,6 +38,13 @@ usage: oracle leaves [--counts]    answer the calls on standard input, as progra
        oracle smooth COUNT SEED KIND
                                    the same: fits of smooth functions, some dozen trials each
        oracle special              the same: marked sessions that chance would hardly make
+       oracle textbook COUNT SEED  the same: single proposals of the second dogleg, on every leg and border
+       oracle textbook-legs COUNT SEED
+                                   tell how many of these lie on each leg
+       oracle textbook-slips COUNT SEED
+                                   tell how many scripts each wrong program about the second dogleg
+                                   answers wrongly
+       oracle geometry COUNT SEED  tell how far the second dogleg is from the textbook's, by wide numbers
        oracle replay --many [--counts]
                                    answer it; --counts: and count the lines, on standard error
        oracle difference FILE      the first script of the input whose lines are not those in FILE
@@ -76,6 +86,10 @@ fn main() -> ExitCode {
             Err(_) => return usage(),
         },
         ["fit-example"] => write_all(&fit::input()),
+        ["standing", choice] => match choice.parse() {
+            Ok(choice @ (PORTED | TEXTBOOK)) => write_all(&standing::input(choice)),
+            _ => return usage(),
+        },
         ["replay"] => answer_replay(),
         ["replay", "--many"] => answer_scripts(false),
         ["replay", "--many", "--counts"] => answer_scripts(true),
@@ -110,6 +124,10 @@ fn main() -> ExitCode {
                 "pivots" => write_all(&pivots::input(count, seed)),
                 "pivot-calls" => write_all(&pivots::calls(count, seed)),
                 "scripts" => write_all(&scripts::input(count, seed, None)),
+                "textbook" => write_all(&legs::input(count, seed)),
+                "geometry" => geometry::report(count, seed, &mut io::stdout()),
+                "textbook-slips" => textbook_slips::report(count, seed, &mut io::stdout()),
+                "textbook-legs" => legs::report(count, seed, &mut io::stdout()),
                 "slips" => slips::report(count, seed, &mut io::stdout()),
                 #[cfg(feature = "argmin")]
                 "agree" => all_agree(oracle::agree::report(count, seed, &mut io::stdout())),

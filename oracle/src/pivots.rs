@@ -38,7 +38,7 @@ pub fn calls(count: u64, seed: u64) -> Vec<u8> {
 }
 
 /// A matrix with a pivot at the bound, beside it, or a little further off.
-fn near(random: &mut Random, small: bool) -> Matrix {
+pub(crate) fn near(random: &mut Random, small: bool) -> Matrix {
     let n = match random.below(100) {
         0..80 => random.between(2, 4),
         80..95 => random.between(5, 12),

@@ -2,13 +2,13 @@
 
 use crate::input::Reader;
 use crate::leaves::one_nan;
-use crate::session::{Engine, Kind, Phase, Proposal, Settings, Station, LARGEST_ALLOWANCE};
+use crate::session::{Engine, Kind, Phase, Proposal, Settings, Station, LARGEST_ALLOWANCE, PORTED};
 use crate::step::LARGEST_SIZE;
 use crate::vector::{Matrix, Vector};
 use std::io::{self, Write};
 
-/// So many further settings each of the kinds 3 and 4 knows: the allowance.
-const FURTHER: u64 = 1;
+/// So many further settings each of the kinds 3 and 4 knows: the allowance, and which dogleg.
+pub(crate) const FURTHER: u64 = 2;
 
 /// Answers an input of program `replay`.
 pub fn answer(input: &[u8], engine: &impl Engine, out: &mut impl Write) -> io::Result<()> {
@@ -175,6 +175,7 @@ pub(crate) fn start(reader: &mut Reader) -> Option<Start> {
         epsilon,
         limit,
         allowance: further.first().copied().unwrap_or(LARGEST_ALLOWANCE),
+        dogleg: further.get(1).copied().unwrap_or(PORTED),
     };
     let cost = reader.number()?;
     let (point, gradient) = (reader.vector(n)?, reader.vector(n)?);
@@ -374,25 +375,63 @@ count 0
         }
     }
 
+    /// Kernel 2 with g = 2, H = 1 and a radius of 1: pb is −2, and so is pu. The ported dogleg stands still,
+    /// the textbook's goes −1. It is the ported one where none is named.
+    #[test]
+    fn two_doglegs() {
+        let stands = "proposed 0\nstep 8000000000000000\n";
+        let moves = "proposed 0\nstep bff0000000000000\n";
+        for kind in [3, 4] {
+            for (further, said) in [
+                (&[0][..], stands),
+                (&[1, 7], stands),
+                (&[2, 7, 1], stands),
+                (&[2, 7, 2], moves),
+            ] {
+                let mut input = head_with(kind, further);
+                input[2] = 2;
+                input.extend([1, 1]);
+                let lines = lines_of(&bytes(&input));
+                assert!(lines.starts_with(&format!("start\n{said}")), "{lines}");
+            }
+        }
+    }
+
     /// Words that make no start of kinds 3 and 4; and starts that are refused.
     #[test]
     fn bad_further_settings() {
         for kind in [3, 4] {
-            let good = bytes(&head_with(kind, &[1, 1000]));
-            for length in 0..good.len() {
-                assert_eq!(lines_of(&good[..length]), "bad input\n");
+            for further in [&[1, 1000][..], &[2, 1000, 1], &[2, 1000, 2]] {
+                let good = bytes(&head_with(kind, further));
+                for length in 0..good.len() {
+                    assert_eq!(lines_of(&good[..length]), "bad input\n");
+                }
+                assert!(lines_of(&good).starts_with("start\nend ready\n"));
             }
-            assert!(lines_of(&good).starts_with("start\nend ready\n"));
-            for many in [2, 1 << 32, (1 << 32) + 1, u64::MAX] {
-                let input = head_with(kind, &[many, 1, 1]);
+            for many in [3, 4, 1 << 32, (1 << 32) + 1, (1 << 32) + 2, u64::MAX] {
+                let input = head_with(kind, &[many, 1, 1, 1, 1]);
                 assert_eq!(lines_of(&bytes(&input)), "bad input\n");
             }
             for allowance in [0, 1001, (1 << 32) + 1, u64::MAX] {
                 let input = head_with(kind, &[1, allowance]);
                 assert_eq!(lines_of(&bytes(&input)), "refused 2\n");
             }
+            // The dogleg is looked at whatever the kernel.
+            for kernel in 1..=3 {
+                let with = |dogleg| {
+                    let mut input = head_with(kind, &[2, 1, dogleg]);
+                    input[2] = kernel;
+                    lines_of(&bytes(&input))
+                };
+                for dogleg in [0, 3, (1 << 32) + 1, (1 << 32) + 2, u64::MAX] {
+                    assert_eq!(with(dogleg), "refused 2\n");
+                }
+                for dogleg in [1, 2] {
+                    assert!(with(dogleg).starts_with("start\n"));
+                }
+            }
             // What is bad comes before what is refused: kernel 4 is none.
-            let mut input = head_with(kind, &[2, 1, 1]);
+            let mut input = head_with(kind, &[3, 1, 1, 1]);
             input[2] = 4;
             assert_eq!(lines_of(&bytes(&input)), "bad input\n");
         }

@@ -2,10 +2,10 @@
 
 use crate::input::words;
 use crate::random::Random;
-use crate::replay;
-use crate::session::{Engine, Station, Tried, Verdict};
+use crate::replay::{self, FURTHER};
+use crate::session::{Engine, Station, Tried, Verdict, TEXTBOOK};
 use crate::sessions;
-use crate::step::Call;
+use crate::step::{Call, Kernel};
 use crate::tally::Tally;
 use crate::vector::Vector;
 use std::cell::Cell;
@@ -57,7 +57,8 @@ fn script(random: &mut Random, kind: Option<u64>) -> Vec<u64> {
         8 | 9 => {
             // How many further settings there are: more than the kind knows.
             let place = if kind == Some(3) { 8 } else { 9 };
-            replace(&mut script, place, random.pick(&[2, 1 << 32 | 1, u64::MAX]));
+            let more = [FURTHER + 1, FURTHER + 2, 1 << 32 | 1, 1 << 32 | 2, u64::MAX];
+            replace(&mut script, place, random.pick(&more));
         }
         _ => {
             let length = random.below(script.len() as u64 + 1);
@@ -87,14 +88,17 @@ fn session(random: &mut Random, kind: Option<u64>) -> Vec<u64> {
         } else {
             sessions::input(seed)
         };
-        let chunks = bytes.chunks_exact(8);
-        let script: Vec<u64> = chunks
-            .map(|word| u64::from_le_bytes(word.try_into().expect("eight bytes")))
-            .collect();
+        let script: Vec<u64> = words_of(&bytes).collect();
         if kind.is_none() || script.first().copied() == kind {
             return script;
         }
     }
+}
+
+/// The whole words of some bytes.
+pub(crate) fn words_of(bytes: &[u8]) -> impl Iterator<Item = u64> + '_ {
+    let chunks = bytes.chunks_exact(8);
+    chunks.map(|word| u64::from_le_bytes(word.try_into().expect("eight bytes")))
 }
 
 /// Splits off the first script: its own bytes, and the rest. A script that runs past the end is
@@ -172,7 +176,7 @@ pub fn difference(
 }
 
 /// The table's columns.
-const KERNELS: [&str; 4] = ["Cauchy", "Dogleg", "Steihaug", "no kernel"];
+const KERNELS: [&str; 5] = ["Cauchy", "Dogleg", "Steihaug", "Textbook", "no kernel"];
 
 /// Its rows: the lines by their first words, and sums.
 const ROWS: [&str; 23] = [
@@ -203,10 +207,17 @@ const ROWS: [&str; 23] = [
 
 /// Counts a script and its lines.
 fn count(tally: &mut Tally, script: &[u8], lines: &[u8]) {
-    let kernel = script.chunks_exact(8).nth(2);
-    let column = match kernel.map(|word| word.try_into().map(u64::from_le_bytes)) {
-        Some(Ok(kernel @ 1..=3)) => kernel as usize - 1,
-        _ => 3,
+    let words: Vec<u64> = words_of(script).collect();
+    let further = match words.first() {
+        Some(3) => words.get(8..),
+        Some(4) => words.get(9..),
+        _ => None,
+    };
+    let textbook = matches!(further, Some([2, _, TEXTBOOK, ..]));
+    let column = match words.get(2) {
+        Some(2) if textbook => 3,
+        Some(&kernel @ 1..=3) => kernel as usize - 1,
+        _ => 4,
     };
     for line in String::from_utf8_lossy(lines).lines() {
         let words: Vec<&str> = line.split(' ').collect();
@@ -229,7 +240,7 @@ fn count(tally: &mut Tally, script: &[u8], lines: &[u8]) {
 /// An engine whose verdicts are counted by kernel: trials that a caller made up do not reach it.
 struct Counted<'a, E> {
     engine: &'a E,
-    judged: [Cell<u64>; 3],
+    judged: [Cell<u64>; 4],
 }
 
 impl<E: Engine> Engine for Counted<'_, E> {
@@ -238,7 +249,12 @@ impl<E: Engine> Engine for Counted<'_, E> {
     }
 
     fn judge(&self, station: &Station, tried: &Tried) -> Verdict {
-        let judged = &self.judged[station.settings.kernel as usize - 1];
+        let judged = &self.judged[match station.call().kernel {
+            Kernel::Cauchy => 0,
+            Kernel::Dogleg => 1,
+            Kernel::Steihaug => 2,
+            Kernel::Textbook => 3,
+        }];
         judged.set(judged.get() + 1);
         self.engine.judge(station, tried)
     }
@@ -278,29 +294,31 @@ mod tests {
         let input = input(600, 1, Some(kind));
         let tally = answer(&input, &Formulas, &mut out).unwrap();
         let (sr1, hidden) = (kind % 2 == 0, kind > 2);
+        // The textbook's dogleg is that of kinds 3 and 4 alone.
+        let every = if hidden { 15 } else { 7 };
         for (name, kernels) in [
-            ("start", 7),
-            ("proposed", 7),
-            ("accepted", 7),
-            ("rejected", 7),
-            ("rejected, NaN", 7),
-            ("taken", if sr1 { 0 } else { 7 }),
-            ("done", if sr1 { 7 } else { 0 }),
-            ("bad input", 7),
-            ("refused 1", 7),
-            ("refused 2", 7),
-            ("refused 3", 7),
-            ("refused 4", 7),
-            ("refused 5", 7),
-            ("refused 6", 2),
+            ("start", every),
+            ("proposed", every),
+            ("accepted", every),
+            ("rejected", every),
+            ("rejected, NaN", every),
+            ("taken", if sr1 { 0 } else { every }),
+            ("done", if sr1 { every } else { 0 }),
+            ("bad input", every),
+            ("refused 1", every),
+            ("refused 2", every),
+            ("refused 3", every),
+            ("refused 4", every),
+            ("refused 5", every),
+            ("refused 6", every & 10),
             ("refused 7", 4),
-            ("refused 8", 7),
-            ("refused 9", if hidden { 7 } else { 0 }),
-            ("end ready", 7),
-            ("end cost", 7),
-            ("end derivatives", if sr1 { 0 } else { 7 }),
+            ("refused 8", every),
+            ("refused 9", if hidden { every } else { 0 }),
+            ("end ready", every),
+            ("end cost", every),
+            ("end derivatives", if sr1 { 0 } else { every }),
         ] {
-            for kernel in 0..3 {
+            for kernel in 0..4 {
                 let comes = kernels & 1 << kernel != 0;
                 let counted = tally.get(name, kernel);
                 assert_eq!(counted > 0, comes, "kind {kind}, {name}: {kernel}");
@@ -316,13 +334,10 @@ mod tests {
             let (mut small, mut left) = (0, &input[..]);
             while let Some((script, rest)) = split(left) {
                 let started = lines(script, &Formulas).unwrap().starts_with(b"start");
-                let words: Vec<u64> = script
-                    .chunks_exact(8)
-                    .map(|word| u64::from_le_bytes(word.try_into().unwrap()))
-                    .collect();
+                let words: Vec<u64> = words_of(script).collect();
                 let place = if kind == 3 { 8 } else { 9 };
                 small += match words.get(place..place + 2) {
-                    Some([1, 1..=5]) if started => 1,
+                    Some([1 | 2, 1..=5]) if started => 1,
                     _ => 0,
                 };
                 left = rest;

@@ -1,5 +1,6 @@
-//! The two sessions as document 01 has them, with request Five's count of NaN answers in a row:
-//! settings, phases, refusals, and what each call leaves. argmin has no such count. How a proposal is worked out and a trial judged is an engine's part: by document 01's formulas
+//! The two sessions as document 01 has them, with request Five's count of NaN answers in a row and
+//! request Six's choice of a dogleg: settings, phases, refusals, and what each call leaves. argmin has
+//! neither. How a proposal is worked out and a trial judged is an engine's part: by document 01's formulas
 //! here, by argmin's own code in argmin_sessions.rs.
 
 use crate::formulas;
@@ -8,6 +9,10 @@ use crate::vector::{Matrix, Vector};
 
 /// The most NaN answers in a row that a setting may allow.
 pub const LARGEST_ALLOWANCE: u64 = 1_000;
+
+/// The dogleg of a session: the ported one, or the one with the textbook's first leg (request Six).
+pub const PORTED: u64 = 1;
+pub const TEXTBOOK: u64 = 2;
 
 /// The settings of either kind, as given.
 #[derive(Clone, Copy, Debug)]
@@ -20,6 +25,8 @@ pub struct Settings {
     pub limit: u64,
     /// So many NaN answers in a row are allowed.
     pub allowance: u64,
+    /// Which dogleg kernel 2 is.
+    pub dogleg: u64,
 }
 
 #[derive(Clone, Copy, Debug)]
@@ -30,10 +37,12 @@ pub enum Kind {
 
 impl Settings {
     fn kernel(&self) -> Option<Kernel> {
-        Some(match self.kernel {
-            1 => Kernel::Cauchy,
-            2 => Kernel::Dogleg,
-            3 => Kernel::Steihaug,
+        // The dogleg is looked at whatever the kernel.
+        Some(match (self.kernel, self.dogleg) {
+            (1, PORTED | TEXTBOOK) => Kernel::Cauchy,
+            (2, PORTED) => Kernel::Dogleg,
+            (2, TEXTBOOK) => Kernel::Textbook,
+            (3, PORTED | TEXTBOOK) => Kernel::Steihaug,
             _ => return None,
         })
     }
@@ -404,6 +413,7 @@ mod tests {
         epsilon: 1e-9,
         limit: 5,
         allowance: 2,
+        dogleg: PORTED,
     };
 
     const SR1: Settings = Settings {
@@ -490,6 +500,31 @@ mod tests {
         assert_eq!(station.propose(2, &Formulas), Err(3));
         let infinite = station.answer(2, f64::INFINITY, None, &Formulas);
         assert_eq!(infinite.err(), Some(4));
+    }
+
+    /// g = (3, 4), H = I and radius 1, as in document 01's case 5: the ported dogleg stands still.
+    #[test]
+    fn the_dogleg_is_chosen() {
+        for settings in [TRUST_REGION, SR1] {
+            let step = |kernel, dogleg| {
+                let settings = Settings {
+                    kernel,
+                    dogleg,
+                    ..settings
+                };
+                let mut station = start(settings, 10.0).unwrap();
+                let made = Ok(Proposal::Made {
+                    passes: u64::from(kernel == 3),
+                });
+                assert_eq!(station.propose(2, &Formulas), made);
+                station.step.0
+            };
+            assert_eq!(step(2, PORTED), [0.0, 0.0]);
+            assert_eq!(step(2, TEXTBOOK), [-3.0 * 0.2, -4.0 * 0.2]);
+            for kernel in [1, 3] {
+                assert_eq!(step(kernel, PORTED), step(kernel, TEXTBOOK));
+            }
+        }
     }
 
     #[test]
@@ -618,6 +653,23 @@ mod tests {
                 assert_eq!(start(settings, cost).err(), refusal);
             }
             assert_eq!(start(settings, 1.0).unwrap().count, 0);
+            for kernel in 1..=3 {
+                for (dogleg, refusal) in [
+                    (PORTED, None),
+                    (TEXTBOOK, None),
+                    (0, Some(2)),
+                    (3, Some(2)),
+                    ((1 << 32) + 1, Some(2)),
+                    (u64::MAX, Some(2)),
+                ] {
+                    let settings = Settings {
+                        kernel,
+                        dogleg,
+                        ..settings
+                    };
+                    assert_eq!(start(settings, 1.0).err(), refusal);
+                }
+            }
         }
         let with_eta = |settings: Settings, eta| start(Settings { eta, ..settings }, 1.0).err();
         for (eta, refusal) in [

@@ -5,7 +5,9 @@ use crate::cases::{gradient, hessian, some_kind, whole};
 use crate::input::words;
 use crate::random::{made_bits, with_exponent, Random, NANS};
 use crate::replay::{self, Call};
-use crate::session::{Formulas, Kind, Phase, Settings, Station, LARGEST_ALLOWANCE};
+use crate::session::{
+    Formulas, Kind, Phase, Settings, Station, LARGEST_ALLOWANCE, PORTED, TEXTBOOK,
+};
 use crate::vector::{Matrix, Vector};
 
 const INFINITY: u64 = 0x7ff0_0000_0000_0000;
@@ -103,6 +105,10 @@ impl Maker {
 
     fn settings(&mut self, n: usize) -> Settings {
         let mut settings = sound_settings(&mut self.random, n);
+        // Kernel 2 is two kernels in kinds 3 and 4.
+        if self.hidden > 0 && self.random.once_in(4) {
+            settings.kernel = 2;
+        }
         if self.random.once_in(14) {
             spoil(&mut self.random, &mut settings);
         }
@@ -119,16 +125,17 @@ impl Maker {
         self.words
             .extend([settings.epsilon.to_bits(), settings.limit]);
         if self.hidden > 0 {
-            settings.allowance = self.allowance();
+            (settings.allowance, settings.dogleg) = self.further();
         }
         settings
     }
 
-    /// The words behind the limit; those of some sessions name no allowance.
-    fn allowance(&mut self) -> u64 {
-        if self.random.once_in(16) {
+    /// The words behind the limit: allowance and dogleg. Those of some sessions name none of them, or
+    /// the first alone.
+    fn further(&mut self) -> (u64, u64) {
+        if self.random.once_in(20) {
             self.words.push(0);
-            return LARGEST_ALLOWANCE;
+            return (LARGEST_ALLOWANCE, PORTED);
         }
         let random = &mut self.random;
         let allowance = match random.below(40) {
@@ -137,8 +144,13 @@ impl Maker {
             38 => LARGEST_ALLOWANCE,
             _ => random.pick(&[0, LARGEST_ALLOWANCE + 1, (1 << 32) + 1, u64::MAX]),
         };
-        self.words.extend([1, allowance]);
-        allowance
+        if random.once_in(6) {
+            self.words.extend([1, allowance]);
+            return (allowance, PORTED);
+        }
+        let dogleg = some_dogleg(random, 40);
+        self.words.extend([2, allowance, dogleg]);
+        (allowance, dogleg)
     }
 
     fn push_all(&mut self, numbers: &[f64]) {
@@ -332,6 +344,21 @@ impl Maker {
     }
 }
 
+/// Mostly the textbook's. Once in so many none that there is; in its low half or its low bits it may be
+/// one.
+pub(crate) fn some_dogleg(random: &mut Random, times: u64) -> u64 {
+    if random.once_in(times) {
+        let far = [1 << 32, (1 << 32) + 1, (1 << 32) + 2, 1 << 63 | 2, 257];
+        let near = [0, 3, 4, u64::MAX];
+        return if random.once_in(3) {
+            random.pick(&far)
+        } else {
+            random.pick(&near)
+        };
+    }
+    random.pick(&[PORTED, PORTED, TEXTBOOK, TEXTBOOK, TEXTBOOK])
+}
+
 /// Whole numbers other than 0, and a definite diagonal.
 fn plain(random: &mut Random, n: usize) -> (Vector, Matrix) {
     let g = (0..n).map(|_| random.pick(&[-3.0, -2.0, -1.0, 1.0, 2.0, 4.0]));
@@ -360,6 +387,7 @@ fn sound_settings(random: &mut Random, n: usize) -> Settings {
             epsilon,
             limit,
             allowance: LARGEST_ALLOWANCE,
+            dogleg: PORTED,
         }
     } else {
         let factor = random.pick(&[1e-8, 1e-8, 0.5, 1f64.next_down(), 5e-324]);
@@ -372,6 +400,7 @@ fn sound_settings(random: &mut Random, n: usize) -> Settings {
             epsilon,
             limit,
             allowance: LARGEST_ALLOWANCE,
+            dogleg: PORTED,
         }
     }
 }

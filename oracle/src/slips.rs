@@ -110,6 +110,7 @@ impl Wrong {
             Kernel::Cauchy => (self.cauchy(g, h, radius), 0),
             Kernel::Dogleg => (self.dogleg(g, h, radius)?, 0),
             Kernel::Steihaug => self.steihaug(call)?,
+            Kernel::Textbook => unreachable!("program `step` has no such kernel"),
         };
         match self.0 {
             RefusesAll => Err(8),

@@ -1,11 +1,13 @@
 //! Inputs of program `replays`: fits of smooth functions, trial by trial, each some dozen trials long. The costs and the
-//! derivatives are those of the trial points, and some trials are answered with NaN. In kinds 3 and 4 one to five of these are
-//! allowed in a row; markers stay hidden for a while, and after a refusal by 9 the caller shows them and puts the count to 0.
+//! derivatives are those of the trial points, and some trials are answered with NaN. In kinds 3 and 4 mostly one to five of these are
+//! allowed in a row; markers stay hidden for a while, and after a refusal by 9 the caller shows them and puts the count to 0. Their
+//! dogleg is the ported one or the textbook's.
 
 use crate::random::{made_bits, with_exponent, Random};
-use crate::replay::{self, Call};
+use crate::replay::{self, Call, FURTHER};
 use crate::scripts::many;
-use crate::session::{Formulas, Kind, Phase, Settings, Station, LARGEST_ALLOWANCE};
+use crate::session::{Formulas, Kind, Phase, Settings, Station, LARGEST_ALLOWANCE, PORTED};
+use crate::sessions::some_dogleg;
 use crate::vector::{Matrix, Vector};
 
 /// `count` scripts of a kind of session.
@@ -117,12 +119,31 @@ fn settings(random: &mut Random, kind: u64) -> Settings {
         },
         epsilon: random.pick(&[1e-9, 1e-3]),
         limit: random.pick(&[5, 20, 100]),
-        allowance: if is_hidden(kind) {
-            random.between(1, 5) as u64
-        } else {
-            LARGEST_ALLOWANCE
-        },
+        allowance: LARGEST_ALLOWANCE,
+        dogleg: PORTED,
     }
+}
+
+/// The further settings of kinds 3 and 4, which are put in, and their words: none of the two, the
+/// allowance alone, or both.
+fn further(random: &mut Random, settings: &mut Settings) -> Vec<u64> {
+    if random.once_in(100) {
+        // More than there are.
+        return vec![FURTHER + random.pick(&[1, 2, 1 << 32]), 1, 1, 1];
+    }
+    if random.once_in(20) {
+        return vec![0];
+    }
+    settings.allowance = random.between(1, 5) as u64;
+    if random.once_in(6) {
+        return vec![1, settings.allowance];
+    }
+    settings.dogleg = some_dogleg(random, 50);
+    // More fits by the two doglegs than by each other kernel.
+    if random.once_in(3) {
+        settings.kernel = 2;
+    }
+    vec![2, settings.allowance, settings.dogleg]
 }
 
 /// Whether trials are hidden.
@@ -156,7 +177,12 @@ impl Markers {
 fn script(random: &mut Random, kind: u64) -> Vec<u64> {
     let n = random.between(1, 4) as usize;
     let valley = Valley::new(random, n);
-    let settings = settings(random, kind);
+    let mut settings = settings(random, kind);
+    let further = if is_hidden(kind) {
+        further(random, &mut settings)
+    } else {
+        Vec::new()
+    };
     let point: Vec<f64> = (0..n).map(|_| number(random, -2, 2)).collect();
     let (cost, gradient, hessian) = (
         valley.cost(&point),
@@ -171,9 +197,8 @@ fn script(random: &mut Random, kind: u64) -> Vec<u64> {
     let bits = |list: &[f64]| -> Vec<u64> { list.iter().map(|&x| made_bits(x)).collect() };
     script.extend(bits(&own));
     script.extend([settings.epsilon.to_bits(), settings.limit]);
-    if is_hidden(kind) {
-        script.extend([1, settings.allowance]);
-    }
+    let is_bad = further.first().is_some_and(|many| *many > FURTHER);
+    script.extend(further);
     script.push(made_bits(cost));
     script.extend(bits(&point));
     script.extend(bits(&gradient.0));
@@ -182,6 +207,9 @@ fn script(random: &mut Random, kind: u64) -> Vec<u64> {
     let Ok(mut station) = start else {
         return script;
     };
+    if is_bad {
+        return script;
+    }
     let told = n as u64;
     let mut markers = Markers { kind, hidden: 0 };
     for _ in 0..random.between(20, 100) {
@@ -237,10 +265,13 @@ mod tests {
         for kind in [3, 4] {
             let mut out = Vec::new();
             let tally = scripts::answer(&input(300, 1, kind), &Formulas, &mut out).unwrap();
-            let all = |row| (0..3).map(|kernel| tally.get(row, kernel)).sum::<u64>();
+            let all = |row| (0..4).map(|kernel| tally.get(row, kernel)).sum::<u64>();
             assert!(all("refused 9") > 300, "{}", all("refused 9"));
             assert!(all("accepted") > all("refused 9"));
-            assert_eq!((all("start"), all("refused 2")), (300, 0));
+            // A dogleg that is none, or too many settings.
+            let not_started = [all("refused 2"), all("bad input")];
+            assert_eq!(all("start") + not_started[0] + not_started[1], 300);
+            assert!(not_started.iter().all(|counted| (1..20).contains(counted)));
         }
     }
 

@@ -2,6 +2,9 @@
 
 use crate::hidden::marked;
 use crate::input::words;
+use crate::marked_legs;
+use crate::session::{PORTED, TEXTBOOK};
+use crate::standing;
 
 /// A script of size 2, with the identity for a Hessian and the Cauchy point for a kernel.
 struct Script(Vec<u64>);
@@ -74,7 +77,8 @@ fn dogleg_in_line(kind: u64) -> Script {
     script
 }
 
-/// All of them, each with its length before it: first those of document 01 and of request Two, then those of request Five.
+/// All of them, each with its length before it: first those of document 01 and of request Two, then those of request Five, then those of
+/// request Six, and at the end the fit that stood on its start, by either dogleg.
 pub fn input() -> Vec<u8> {
     let least = f64::from_bits(1);
     let scripts = [
@@ -144,8 +148,12 @@ pub fn input() -> Vec<u8> {
         dogleg_in_line(2),
     ];
     let hidden = marked().into_iter().map(|marked| marked.words);
+    let legs = marked_legs::marked();
+    let legs = legs.into_iter().map(|marked| marked.words);
     let mut bytes = Vec::new();
-    for script in scripts.map(|Script(words)| words).into_iter().chain(hidden) {
+    let first = scripts.map(|Script(words)| words).into_iter();
+    let fits = [PORTED, TEXTBOOK].map(standing::script).into_iter();
+    for script in first.chain(hidden).chain(legs).chain(fits) {
         words(&mut bytes, &[script.len() as u64]);
         words(&mut bytes, &script);
     }

@@ -16,6 +16,8 @@ pub enum Kernel {
     Cauchy,
     Dogleg,
     Steihaug,
+    /// The second dogleg. Program `step` has it not; a session chooses it by a setting.
+    Textbook,
 }
 
 /// A call of a kernel that refusals 1 to 4 let pass.
