@@ -1,4 +1,4 @@
--- What the three kernels share: what they give, and the checks before them. Definitions only.
+-- What the kernels share: what they give, and the checks before them. Definitions only.
 use mathlib.Core.Path.{_≡_}
 use mathlib.Core.Bool.{Bool, false, not, _&&_}
 use mathlib.Core.List.{List, [], _∷_, _++_}

@@ -1,4 +1,4 @@
-// What the three kernels share: the checks before them, and the end of each.
+// What the kernels share: the checks before them, and the end of each.
 use crate::workspace;
 use vectors::refusal;
 use vectors::refusal::Refusal;
