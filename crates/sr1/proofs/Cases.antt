@@ -1,9 +1,9 @@
--- The radius rule, a run, the order of the checks, and hidden trials in a row, worked out over the definitions. Assumes nothing. (Document 01's marked cases are crates/marked.)
+-- The radius rule, the editions' rules, a run, the order of the checks, and hidden trials in a row, worked out over the definitions. Assumes nothing. (Document 01's marked cases are crates/marked.)
 use mathlib.Core.Path.{_≡_, refl}
-use mathlib.Core.Bool.{false}
+use mathlib.Core.Bool.{Bool, true, false}
 use mathlib.Core.List.{List, [], _∷_, _++_, map}
-use Prim.Native.Nat.{ℕ}
-use lib.Ieee.{Float, nan, inf, binary64, round, ofBits, add, sub, mul, div, neg, lt, le, eq, isNan}
+use Prim.Native.Nat.{ℕ, _^_}
+use lib.Ieee.{Float, nan, inf, binary64, round, ofBits, add, sub, mul, div, neg, lt, le, eq, ne, isNan}
 use Rattle.float.specs.Constants.{nought, one, two, half, thousandth}
 use Rattle.vectors.specs.Vector.{zeros}
 use Rattle.vectors.specs.Refusal.{Answer, refused, given, number, room}
@@ -11,8 +11,8 @@ use Rattle.kernels.specs.Choice as Choice
 use Rattle.vectors.specs.declared.refusal.Refusal.the-variants.{Size, Turn}
 use Rattle.offer.specs.State.{begin, moved, in-phase}
 use Rattle.offer.specs.Run.{own, Call, Entry, run, final}
-use Rattle.sr1.specs.Settings.{settings-of, allowing, by-default, chosen}
-use Rattle.sr1.specs.Session.{start, proposal, next-radius, judgement}
+use Rattle.sr1.specs.Settings.{settings-of, allowing, updating, by-default, chosen}
+use Rattle.sr1.specs.Session.{start, proposal, next-radius, updates, judgement}
 use Rattle.sr1.specs.Run.{Station, Request, propose, answer, Told, outcome, respond}
 use Rattle.sr1.specs.declared.session.Session.{Session}
 use Rattle.offer.specs.declared.state.Phase.{Phase}
@@ -43,6 +43,32 @@ pub radii :
     ≡ (10 over 1) ∷ (10 over 1) ∷ (20 over 1) ∷ (10 over 1) ∷ (10 over 1) ∷ (5 over 1) ∷ (5 over 1) ∷ []
 unfolding _over_ next-radius ofBits mul lt le
 radii = refl
+
+-- ---- request Seven: edition 1 is "|q| ≥ (factor·‖s‖)·|q|", edition 2 "|q| ≥ (factor·‖s‖)·‖z‖ and q is not 0"
+
+-- by a factor of 0.5, with the promised ‖s‖, the number z and q
+abbrev by-edition : (edition : ℕ) → (norm z q : Float) → Bool
+by-edition edition norm z q = updates (updating edition (settings-of (Choice.by-default 1 5) one thousandth half thousandth)) norm (z ∷ []) q
+
+abbrev both-editions : (norm z q : Float) → List Bool
+both-editions norm z q = by-edition 1 norm z q ∷ by-edition 2 norm z q ∷ []
+
+-- ‖s‖ 2 and ‖z‖ 3: q at the bound of 3, at −3, and below it; q of +0 and of −0; an infinite q; a z, a norm and a q that are none; ‖z‖ that overflows; ‖s‖ so long that edition 1 skips too
+pub rules :
+    both-editions two (3 over 1) (3 over 1)
+    ++ both-editions two (3 over 1) (neg (3 over 1))
+    ++ both-editions two (3 over 1) (6755399441055743 over 2 ^ 51)
+    ++ both-editions two (3 over 1) nought
+    ++ both-editions two (3 over 1) (neg nought)
+    ++ both-editions two (3 over 1) (inf true)
+    ++ both-editions two nan (3 over 1)
+    ++ both-editions nan (3 over 1) (3 over 1)
+    ++ both-editions two (3 over 1) nan
+    ++ both-editions two (2 ^ 600 over 1) (2 ^ 1000 over 1)
+    ++ both-editions (3 over 1) one one
+    ≡ true ∷ true ∷ true ∷ true ∷ true ∷ false ∷ true ∷ false ∷ true ∷ false ∷ true ∷ true ∷ true ∷ false ∷ false ∷ false ∷ false ∷ false ∷ true ∷ false ∷ false ∷ false ∷ []
+unfolding _over_ updates Choice.kernel ofBits add mul neg le eq ne
+rules = refl
 
 -- ---- a run
 
@@ -173,3 +199,33 @@ pub record Counted : Type 0 where
 pub counted-right : Counted
 unfolding station _over_ zeros respond Choice.kernel ofBits add sub mul div neg lt le eq isNan
 counted-right = record { one-more = refl; other = refl; by-8 = refl; left = refl }
+
+-- ---- request Seven: a session that names its edition
+
+-- "an unknown edition is 2", at a start and, where a caller puts one in, at a proposal and an answer
+abbrev named : (edition : ℕ) → List ℕ
+named edition =
+    let t = updating edition (by-default 1 5) in
+    let s : (phase : Phase) → Session = λ phase. record { settings = t; state = in-phase phase (begin one one) } in
+    numbered (start t one)
+    ∷ numbered (proposal chosen (s Ready) 1 (one ∷ []) (one ∷ []) (one ∷ []) (one ∷ []) (one ∷ []) (zeros (room 1)))
+    ∷ numbered (judgement (s (AwaitingCost one one)) 1 one (one ∷ []) (one ∷ []) (one ∷ []) (one ∷ []) (two ∷ []) (one ∷ []) (zeros (room 1)))
+    ∷ []
+
+pub editions-named : named 0 ++ named 1 ++ named 2 ++ named 3 ≡ 2 ∷ 2 ∷ 2 ∷ 0 ∷ 0 ∷ 0 ∷ 0 ∷ 0 ∷ 0 ∷ 2 ∷ 2 ∷ 2 ∷ []
+unfolding zeros start proposal judgement Choice.kernel ofBits add sub mul div neg lt le eq ne isNan
+editions-named = refl
+
+-- the patient station, by edition 2
+abbrev careful : Station
+careful = record { session = record { settings = updating 2 (allowing 2 (by-default 1 5)); state = station .session .state }; lent = station .lent }
+
+-- A hidden trial with z = (0, 0), which edition 1 refuses by 8: it is taken, counted, halves the radius, and leaves the Hessian.
+pub record Skipped : Type 0 where
+  pub replies : map (λ (e : Entry Request Told). numbered (e .reply)) (run (respond chosen) careful (trial-of nan ((3 over 2) ∷ (2 over 1) ∷ []))) ≡ 0 ∷ 0 ∷ []
+  pub counts : final (respond chosen) careful (trial-of nan ((3 over 2) ∷ (2 over 1) ∷ [])) .session .state .count ≡ 1
+  pub ends : numbers (final (respond chosen) careful (trial-of nan ((3 over 2) ∷ (2 over 1) ∷ []))) ≡ (5 over 4) ∷ (10 over 1) ∷ one ∷ one ∷ (3 over 1) ∷ (4 over 1) ∷ one ∷ nought ∷ nought ∷ one ∷ []
+
+pub skipped-right : Skipped
+unfolding station _over_ zeros respond Choice.kernel ofBits add sub mul div neg lt le eq ne isNan
+skipped-right = record { replies = refl; counts = refl; ends = refl }

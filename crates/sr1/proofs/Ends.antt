@@ -21,7 +21,7 @@ use Rattle.vectors.specs.declared.refusal.Verdict.the-variants.{Passed, Failed}
 use Rattle.vectors.proofs.Sizes.{Each, each-holds}
 use Rattle.kernels.proofs.Choices.{in-range-known}
 use Rattle.kernels.proofs.Kernels.{unless-passed, unless-failed, early, first-passed}
-use Rattle.offer.specs.Offer.{all-sized, cost-taken, start-checks, proposal-checks, Offer, stepping}
+use Rattle.offer.specs.Offer.{all-sized, start-checks, proposal-checks, Offer, stepping}
 use Rattle.offer.specs.State.{begin, moved, counted, steady, Promise, promised}
 use Rattle.offer.specs.Calls.{replaced, offering, Offers}
 use Rattle.offer.specs.declared.Asked.{Asked}
@@ -31,7 +31,7 @@ use Rattle.offer.proofs.Counts.{count-small}
 use Rattle.offer.proofs.Lengths.{Lent, lent-true, copied}
 use Rattle.offer.proofs.Offers.{offers-kernel, offered-elim}
 use Rattle.sr1.specs.Settings.{ranges, in-range, chosen}
-use Rattle.sr1.specs.Session.{sound, turned, start, Proposal, converged, done, predicted-fall, awaiting, proposal, fall-ratio, next-radius, updated, settled, verdict, judge, judgement-checks, judgement}
+use Rattle.sr1.specs.Session.{sound, turned, start, Proposal, converged, done, predicted-fall, awaiting, proposal, fall-ratio, next-radius, updated, settled, answer-entries, verdict, judge, judgement-checks, judgement}
 use Rattle.sr1.specs.Calls as Calls
 use Rattle.sr1.specs.Calls.{saying, after-offer, Proposes, Updates, Judges}
 use Rattle.sr1.specs.declared.settings.Settings.{Settings}
@@ -150,9 +150,9 @@ module _ (s : Session) (n : ℕ) (F : Float) (new-gradient point step trial grad
   answer-checked = judgement-checks s n new-gradient point step trial gradient hessian scratch
 
   abbrev entries : List Bool
-  entries = all-finite step ∷ all-finite trial ∷ all-finite gradient ∷ all-finite hessian ∷ all-finite new-gradient ∷ cost-taken F ∷ []
+  entries = answer-entries F new-gradient step trial gradient hessian
 
-  abbrev answered : Bool
+  abbrev pub answered : Bool
   answered = all-hold entries
 
   module _ (passed : judged answer-checked ≡ Passed) where
@@ -166,7 +166,7 @@ module _ (s : Session) (n : ℕ) (F : Float) (new-gradient point step trial grad
     pub count-ready : s .state .count ≤ 1000
     count-ready = sound-small s (is-true _ (not-not (sound s) (passed-none answer-checked passed .1 .0)))
 
-    answer-lent : Lent n (length point) (length gradient) (length hessian) (length step) (length trial) (length scratch)
+    pub answer-lent : Lent n (length point) (length gradient) (length hessian) (length step) (length trial) (length scratch)
     answer-lent = lent-true n (length point) (length gradient) (length hessian) (length step) (length trial) (length scratch) (sizes-right .0)
 
     answer-new : length new-gradient ≡ n
@@ -196,7 +196,7 @@ module _ (s : Session) (n : ℕ) (F : Float) (new-gradient point step trial grad
     ratio = fall-ratio (s .state .cost) F (p .value)
 
     abbrev next-hessian : List Float
-    next-hessian = updated n (s .settings .factor) (p .norm) new-gradient gradient hessian step
+    next-hessian = updated n (s .settings) (p .norm) new-gradient gradient hessian step
 
     -- the code's ratio and next radius
     module _ (a : answered ≡ true) (x next : Float) (is-ratio : x ≡ ratio) (is-next : next ≡ next-radius x (p .norm) (s .state .radius)) where

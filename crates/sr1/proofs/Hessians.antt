@@ -18,6 +18,7 @@ use Rattle.vectors.proofs.Vectors.{at-tab, tab-same, at-times}
 use Rattle.kernels.proofs.Rows.{Laying, laying-none, laying-more₀, laid-flat}
 use Rattle.sr1.specs.Session.{residual, updates, gained-row, gained, updated-by, updated}
 use Rattle.sr1.specs.Calls.{Updates}
+use Rattle.sr1.specs.declared.settings.Settings.{Settings}
 
 -- ---- z, number by number
 
@@ -54,7 +55,7 @@ seen-more test throughout j false here next s e bad f = (λ t. absurd (false≢t
 
 -- ---- the entries of a row, and the rows
 
-and-false : (b : Bool) → (b && false) ≡ false
+pub and-false : (b : Bool) → (b && false) ≡ false
 and-false true = refl
 and-false false = refl
 
@@ -117,23 +118,23 @@ gaining-done {n} {old} {z} {share} {w} {i} p h e = let all : i ≡ n = omega ari
 
 -- ---- the whole update
 
-module _ (n : ℕ) (factor norm : Float) (hessian step z : List Float) (q : Float) (is-q : q ≡ dot step z) where
-  pub kept : updates factor norm q ≡ false → all-finite hessian ≡ true → Updates (updated-by n factor norm hessian step z) true hessian hessian
+module _ (n : ℕ) (t : Settings) (norm : Float) (hessian step z : List Float) (q : Float) (is-q : q ≡ dot step z) where
+  pub kept : updates t norm z q ≡ false → all-finite hessian ≡ true → Updates (updated-by n t norm hessian step z) true hessian hessian
   unfolding updated-by
   kept u a = rw (← is-q, u) (record { says = sym a; leaves = rw a })
 
-  module _ (u : updates factor norm q ≡ true) where
-    pub not-finite : all-finite (gained n hessian z (one ⊘ q)) ≡ false → Updates (updated-by n factor norm hessian step z) false hessian hessian
+  module _ (u : updates t norm z q ≡ true) where
+    pub not-finite : all-finite (gained n hessian z (one ⊘ q)) ≡ false → Updates (updated-by n t norm hessian step z) false hessian hessian
     unfolding updated-by
     not-finite a = rw (← is-q, u) (record { says = sym a; leaves = rw a })
 
     pub written : (hessian′ : List Float) → all-finite (gained n hessian z (one ⊘ q)) ≡ true → hessian′ ≡ gained n hessian z (one ⊘ q)
-        → Updates (updated-by n factor norm hessian step z) true hessian hessian′
+        → Updates (updated-by n t norm hessian step z) true hessian hessian′
     unfolding updated-by
     written hessian′ a e = rw (← is-q, u) (record { says = sym a; leaves = e ∙ rw a })
 
 -- z stands at the start of the scratch
-pub by-residual : (n : ℕ) (factor norm : Float) (new-gradient gradient hessian step z : List Float) (r : Bool) (hessian′ : List Float) → z ≡ residual n new-gradient gradient hessian step
-    → Updates (updated-by n factor norm hessian step z) r hessian hessian′ → Updates (updated n factor norm new-gradient gradient hessian step) r hessian hessian′
+pub by-residual : (n : ℕ) (t : Settings) (norm : Float) (new-gradient gradient hessian step z : List Float) (r : Bool) (hessian′ : List Float) → z ≡ residual n new-gradient gradient hessian step
+    → Updates (updated-by n t norm hessian step z) r hessian hessian′ → Updates (updated n t norm new-gradient gradient hessian step) r hessian hessian′
 unfolding updated
-by-residual n factor norm new-gradient gradient hessian step z r hessian′ e u = rw e at u
+by-residual n t norm new-gradient gradient hessian step z r hessian′ e u = rw e at u

@@ -1,4 +1,5 @@
 pub mod Settings
 pub mod Session
 pub mod Calls
+pub mod Skips
 pub mod Run

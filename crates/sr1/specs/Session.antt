@@ -3,10 +3,11 @@
 use mathlib.Core.Bool.{Bool, not, _&&_, cond}
 use mathlib.Core.List.{List, [], _∷_}
 use Prim.Native.Nat.{ℕ}
-use lib.Dec.{leb}
-use lib.Ieee.{Float, lt, le, neg}
+use lib.Dec.{eqb, leb}
+use lib.Ieee.{Float, lt, le, ne, neg}
 use Rattle.float.specs.Numbers.{_⊕_, _⊖_, _⊗_, _⊘_, finite, magnitude}
-use Rattle.float.specs.Constants.{one, two, half, three-quarters, tenth, four-fifths}
+use Rattle.float.specs.Constants.{nought, one, two, half, three-quarters, tenth, four-fifths}
+use Rattle.vectors.specs.Vector as Vector
 use Rattle.vectors.specs.Vector.{at, tab, flat, dot, norm, row, times, weighted, minus, all-finite}
 use Rattle.vectors.specs.Refusal.{Answer, given, Check, _if_, unless, then, all-hold, size, sized}
 use Rattle.kernels.specs.Kernel.{Kernel}
@@ -103,10 +104,20 @@ unfoldable pub residual : ℕ → (new-gradient gradient hessian step : List Flo
 unfolding minus times
 residual n new-gradient gradient hessian step = minus n (minus n new-gradient gradient) (times n hessian step)
 
--- "|q| ≥ (factor·‖s‖)·|q|": whether the Hessian is updated
-unfoldable pub updates : (factor norm q : Float) → Bool
+-- edition 1, "the ported rule": "|q| ≥ (factor·‖s‖)·|q|"
+unfoldable pub ported-rule : (factor norm q : Float) → Bool
 unfolding magnitude
-updates factor norm q = le (factor ⊗ norm ⊗ magnitude q) (magnitude q)
+ported-rule factor norm q = le (factor ⊗ norm ⊗ magnitude q) (magnitude q)
+
+-- edition 2: "updates only if |q| ≥ (factor·‖s‖)·‖z‖ and q is not 0"
+unfoldable pub book-rule : (factor norm z-norm q : Float) → Bool
+unfolding magnitude
+book-rule factor norm z-norm q = le (factor ⊗ norm ⊗ z-norm) (magnitude q) && ne q nought
+
+-- Whether the Hessian is updated, by the settings' edition, where norm is the promised ‖s‖. An edition that is not 1 counts as 2, and no range lets another through.
+unfoldable pub updates : Settings → (norm : Float) → (z : List Float) → (q : Float) → Bool
+unfolding ported-rule book-rule Vector.norm
+updates t norm z q = cond (eqb (t .edition) 1) (ported-rule (t .factor) norm q) (book-rule (t .factor) norm (Vector.norm z) q)
 
 -- "each H entry gains (z_i·z_j)·(1/q)": the one in row i and column j, where share is 1/q
 abbrev pub gained-at : ℕ → (hessian z : List Float) → (share : Float) → (i j : ℕ) → Float
@@ -121,14 +132,14 @@ unfolding flat gained-row
 gained n hessian z share = flat n (gained-row n hessian z share)
 
 -- by z, with "q = s·z"
-unfoldable pub updated-by : ℕ → (factor norm : Float) → (hessian step z : List Float) → List Float
+unfoldable pub updated-by : ℕ → Settings → (norm : Float) → (hessian step z : List Float) → List Float
 unfolding dot updates gained
-updated-by n factor norm hessian step z = cond (updates factor norm (dot step z)) (gained n hessian z (one ⊘ dot step z)) hessian
+updated-by n t norm hessian step z = cond (updates t norm z (dot step z)) (gained n hessian z (one ⊘ dot step z)) hessian
 
 -- the Hessian after the answer, "accepted or not"
-unfoldable pub updated : ℕ → (factor norm : Float) → (new-gradient gradient hessian step : List Float) → List Float
+unfoldable pub updated : ℕ → Settings → (norm : Float) → (new-gradient gradient hessian step : List Float) → List Float
 unfolding residual updated-by
-updated n factor norm new-gradient gradient hessian step = updated-by n factor norm hessian step (residual n new-gradient gradient hessian step)
+updated n t norm new-gradient gradient hessian step = updated-by n t norm hessian step (residual n new-gradient gradient hessian step)
 
 -- "accept if ap > eta: the point takes the lent trial's bits, the cost F, the gradient G .. the session is ready again"
 unfoldable pub settled : Session → (F ratio radius : Float) → (new-gradient point trial gradient hessian : List Float) → Judgement
@@ -144,10 +155,11 @@ settled s F ratio radius new-gradient point trial gradient hessian =
     }
 
 -- "for SR1's answer step, trial, g, H, G"; "trial cost infinite (NaN is taken)"
+abbrev pub answer-entries : (F : Float) → (new-gradient step trial gradient hessian : List Float) → List Bool
+answer-entries F new-gradient step trial gradient hessian = all-finite step ∷ all-finite trial ∷ all-finite gradient ∷ all-finite hessian ∷ all-finite new-gradient ∷ cost-taken F ∷ []
+
 abbrev pub answer-checks : (F : Float) → (new-gradient step trial gradient hessian : List Float) → List Check
-answer-checks F new-gradient step trial gradient hessian =
-    (Entry if not (all-hold (all-finite step ∷ all-finite trial ∷ all-finite gradient ∷ all-finite hessian ∷ all-finite new-gradient ∷ cost-taken F ∷ [])))
-    ∷ []
+answer-checks F new-gradient step trial gradient hessian = (Entry if not (all-hold (answer-entries F new-gradient step trial gradient hessian))) ∷ []
 
 -- "the next radius or the updated Hessian has a number that is not finite"
 abbrev pub verdict-checks : (radius : Float) → (hessian : List Float) → List Check
@@ -163,7 +175,7 @@ unfolding next-radius updated settled all-finite finite cost-taken
 judge s n F new-gradient point step trial gradient hessian p =
     unless (answer-checks F new-gradient step trial gradient hessian)
     (verdict s F (fall-ratio (s .state .cost) F (p .value)) (next-radius (fall-ratio (s .state .cost) F (p .value)) (p .norm) (s .state .radius))
-    new-gradient point trial gradient (updated n (s .settings .factor) (p .norm) new-gradient gradient hessian step))
+    new-gradient point trial gradient (updated n (s .settings) (p .norm) new-gradient gradient hessian step))
 
 abbrev pub judgement-checks : Session → ℕ → (new-gradient point step trial gradient hessian scratch : List Float) → List Check
 judgement-checks s n new-gradient point step trial gradient hessian scratch =

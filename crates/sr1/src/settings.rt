@@ -5,7 +5,7 @@ use kernels::kernel;
 use offer::state;
 use vectors::refusal;
 ghost use mathlib.Core.Path.{_≡_};
-ghost use Rattle.sr1.specs.Settings.{by-default, settings-of, allowing, in-range};
+ghost use Rattle.sr1.specs.Settings.{by-default, settings-of, allowing, updating, in-range};
 
 pub struct Settings {
     pub choice: Choice,
@@ -14,6 +14,7 @@ pub struct Settings {
     pub factor: f64,
     pub tol_grad: f64,
     pub allowance: u64,
+    pub edition: u64,
 }
 
 impl Settings {
@@ -26,6 +27,9 @@ impl Settings {
     pub const TOL_GRAD: f64 = 1e-3;
 
     pub const ALLOWANCE: u64 = 1000;
+
+    // Of the rule that says when the Hessian is updated: 1 is argmin's, 2 the book's.
+    pub const EDITION: u64 = 1;
 
     // The defaults for all but the kernel and Steihaug's iteration limit, which have none.
     pub fn new(kernel: u64, limit: u64) -> Self
@@ -52,6 +56,7 @@ impl Settings {
             factor: factor,
             tol_grad: tol_grad,
             allowance: Self::ALLOWANCE,
+            edition: Self::EDITION,
         }
     }
 
@@ -60,6 +65,14 @@ impl Settings {
         ensures { λ r. ⌜ r ≡ allowing allowance self ⌝ }
     {
         self.allowance = allowance;
+        self
+    }
+
+    // By this edition of the rule.
+    pub fn with_edition(mut self, edition: u64) -> Self
+        ensures { λ r. ⌜ r ≡ updating edition self ⌝ }
+    {
+        self.edition = edition;
         self
     }
 }
@@ -80,6 +93,8 @@ pub fn in_range(t: Settings) -> bool
             float::finite(t.tol_grad),
             0.0 <= t.tol_grad,
             state::allowable(t.allowance),
+            1 <= t.edition,
+            t.edition <= 2,
         ],
     )
 }

@@ -19,7 +19,6 @@ use vectors::refusal::Verdict;
 use vectors::vector;
 ghost use mathlib.Core.Path.{_≡_};
 ghost use mathlib.Core.Bool.{true};
-ghost use mathlib.Core.List.{[], _∷_};
 ghost use Prim.Native.Nat.{_+_, _*_, _≤_, _<_};
 ghost use lib.ListN.{length};
 ghost use lib.Ieee.{neg};
@@ -29,11 +28,10 @@ ghost use Rattle.vectors.specs.Vector.{zeros, all-finite};
 ghost use Rattle.vectors.specs.Slots.{Puts};
 ghost use Rattle.vectors.specs.Refusal.{judged, all-hold, Square};
 ghost use Rattle.vectors.specs.declared.refusal.Verdict.the-variants.{Passed};
-ghost use Rattle.offer.specs.Offer.{cost-taken};
 ghost use Rattle.offer.specs.State as state;
 ghost use Rattle.sr1.specs.Settings.{chosen};
 ghost use Rattle.sr1.specs.Session as Definition;
-ghost use Rattle.sr1.specs.Session.{proposal, residual, gained-row, gained, updated-by, updated, next-radius, judgement-checks, judgement};
+ghost use Rattle.sr1.specs.Session.{proposal, residual, ported-rule, book-rule, gained-row, gained, updated-by, updated, next-radius, answer-entries, judgement-checks, judgement};
 ghost use Rattle.sr1.specs.Calls.{begun, after-offer, Proposes, Updates, Judges};
 
 // ---- start
@@ -136,7 +134,7 @@ fn answered(
     gradient: &[f64],
     hessian: &[f64],
 ) -> bool
-    ensures { λ r. ⌜ r ≡ all-hold (all-finite (now (step .entry)) ∷ all-finite (now (trial .entry)) ∷ all-finite (now (gradient .entry)) ∷ all-finite (now (hessian .entry)) ∷ all-finite (now («new_gradient» .entry)) ∷ cost-taken cost ∷ []) ⌝ }
+    ensures { λ r. ⌜ r ≡ all-hold (answer-entries cost (now («new_gradient» .entry)) (now (step .entry)) (now (trial .entry)) (now (gradient .entry)) (now (hessian .entry))) ⌝ }
 {
     refusal::all_hold(
         &[
@@ -194,12 +192,30 @@ fn lay_residual(
     }
 }
 
-// Whether the Hessian is updated. argmin takes the norm of the number q, its magnitude, on both sides.
-fn updates(factor: f64, norm: f64, q: f64) -> bool
-    ensures { λ r. ⌜ r ≡ Definition.updates factor norm q ⌝ }
+// Edition 1. argmin takes the norm of the number q, its magnitude, on both sides.
+fn ported_rule(factor: f64, norm: f64, q: f64) -> bool
+    ensures { λ r. ⌜ r ≡ ported-rule factor norm q ⌝ }
 {
     let size = float::magnitude(q);
     factor * norm * size <= size
+}
+
+// Edition 2. The book has the norm of z on one side; and by a q of zero nothing can be divided.
+fn book_rule(factor: f64, norm: f64, z_norm: f64, q: f64) -> bool
+    ensures { λ r. ⌜ r ≡ book-rule factor norm «z_norm» q ⌝ }
+{
+    let size = float::magnitude(q);
+    refusal::both(factor * norm * z_norm <= size, q != 0.0)
+}
+
+// Whether the Hessian is updated: the one place that asks for the edition.
+fn updates(settings: Settings, norm: f64, z: &[f64], q: f64) -> bool
+    ensures { λ r. ⌜ r ≡ Definition.updates settings norm (now (z .entry)) q ⌝ }
+{
+    if settings.edition == 1 {
+        return ported_rule(settings.factor, norm, q);
+    }
+    book_rule(settings.factor, norm, vector::norm_any(z), q)
 }
 
 // What an entry of the Hessian becomes, where a is z_i, b is z_j and share is 1/q.
@@ -272,12 +288,19 @@ fn write_rows(n: usize, z: &[f64], share: f64, hessian: &mut [f64])
 
 // The Hessian is updated, unless an entry of it would not be finite. Every entry is tested before one is
 // written: there is no room for a second matrix.
-fn update(n: usize, factor: f64, norm: f64, step: &[f64], z: &[f64], hessian: &mut [f64]) -> bool
+fn update(
+    n: usize,
+    settings: Settings,
+    norm: f64,
+    step: &[f64],
+    z: &[f64],
+    hessian: &mut [f64],
+) -> bool
     requires { ⌜ Square n (length (now hessian)) × (length (now z) ≡ n) × (all-finite (now hessian) ≡ true) ⌝ }
-    ensures { λ r. ⌜ Updates (updated-by n factor norm (now (hessian .entry)) (now (step .entry)) (now (z .entry))) r (now (hessian .entry)) (now (hessian .exit)) ⌝ }
+    ensures { λ r. ⌜ Updates (updated-by n settings norm (now (hessian .entry)) (now (step .entry)) (now (z .entry))) r (now (hessian .entry)) (now (hessian .exit)) ⌝ }
 {
     let q = vector::dot_any(step, z);
-    if !updates(factor, norm, q) {
+    if !updates(settings, norm, z, q) {
         return true;
     }
     let share = 1.0 / q;
@@ -291,7 +314,7 @@ fn update(n: usize, factor: f64, norm: f64, step: &[f64], z: &[f64], hessian: &m
 // The same by way of the scratch, which is +0 afterwards.
 fn renew(
     n: usize,
-    factor: f64,
+    settings: Settings,
     norm: f64,
     new_gradient: &[f64],
     step: &[f64],
@@ -300,11 +323,11 @@ fn renew(
     scratch: &mut [f64],
 ) -> bool
     requires { ⌜ (n ≤ length (now scratch)) × Square n (length (now hessian)) × (length (now «new_gradient») ≡ n) × (length (now gradient) ≡ n) × (length (now step) ≡ n) × (all-finite (now hessian) ≡ true) ⌝ }
-    ensures { λ r. ⌜ Updates (updated n factor norm (now («new_gradient» .entry)) (now (gradient .entry)) (now (hessian .entry)) (now (step .entry))) r (now (hessian .entry)) (now (hessian .exit))
+    ensures { λ r. ⌜ Updates (updated n settings norm (now («new_gradient» .entry)) (now (gradient .entry)) (now (hessian .entry)) (now (step .entry))) r (now (hessian .entry)) (now (hessian .exit))
         × (now (scratch .exit) ≡ zeros (length (now (scratch .entry)))) ⌝ }
 {
     lay_residual(n, new_gradient, gradient, hessian, step, scratch);
-    let done = update(n, factor, norm, step, &scratch[0..n], hessian);
+    let done = update(n, settings, norm, step, &scratch[0..n], hessian);
     vector::clear(scratch);
     done
 }
@@ -350,7 +373,7 @@ fn judge(
     }
     if !renew(
         n,
-        s.settings.factor,
+        s.settings,
         norm,
         new_gradient,
         step,

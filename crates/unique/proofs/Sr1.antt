@@ -33,6 +33,7 @@ table =
     equation settings.Settings.new.ended (λ M. settings.Settings.new.spec) (λ w κs a g r. refl) (λ κs a s s₂. refl)
     ∷ equation settings.Settings.of.ended (λ M. settings.Settings.of.spec) (λ w κs a g r. refl) (λ κs a s s₂. refl)
     ∷ equation settings.Settings.«with_allowance».ended (λ M. settings.Settings.«with_allowance».spec) (λ w κs a g r. refl) (λ κs a s s₂. refl)
+    ∷ equation settings.Settings.«with_edition».ended (λ M. settings.Settings.«with_edition».spec) (λ w κs a g r. refl) (λ κs a s s₂. refl)
     ∷ equation settings.«in_range».ended (λ M. settings.«in_range».spec) (λ w κs a g r. refl) (λ κs a s s₂. refl)
     ∷ equation session.sound.ended (λ M. session.sound.spec) (λ w κs a g r. refl) (λ κs a s s₂. refl)
     ∷ equation method.start.ended (λ M. method.start.spec) (λ w κs a g r. refl) (λ κs a s s₂. refl)

@@ -12,7 +12,7 @@ in-range-spec =
     (tie.spec
     (λ c κs. search needs) (λ c κs. search needs) (λ c κs. search needs) (λ c κs. search needs) (λ c κs. search needs) (λ c κs. search needs) (λ c κs. search needs) (λ c. search needs) (λ c κs. search needs)
     (λ c.
-    let allowed = c .before .before in
+    let allowed = c .before .before .before .before in
     let tolerance = allowed .before .before in
     let factor = tolerance .before .before in
     let eta = factor .before .before in
