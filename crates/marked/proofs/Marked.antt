@@ -3,14 +3,14 @@ use mathlib.Core.Path.{_≡_, refl, _∙_, ap}
 use mathlib.Core.Bool.{true}
 use mathlib.Core.List.{List, [], _∷_, map}
 use lib.IntN.{negsuc}
-use lib.Ieee.{Float, fin, ofBits, add, sub, mul, div, neg, lt, le, eq, isNan}
+use lib.Ieee.{Float, fin, ofBits, add, sub, mul, div, neg, lt, le, eq, ne, isNan}
 use Rattle.float.specs.Constants.{one}
 use Rattle.vectors.specs.Refusal.{given}
 use Rattle.kernels.specs.Kernel.{made, handed-out}
 use Rattle.kernels.specs.Dogleg.{unconstrained, newton}
 use Rattle.kernels.specs.Textbook.{first-leg, first}
 use Rattle.kernels.proofs.Legs.{on-leg}
-use Rattle.marked.specs.Cases.{Case, kernel, _over_, minus_over_, g, I, cases, textbook-example, textbook-moves, textbook-whole, textbook-inverses, textbook-zero}
+use Rattle.marked.specs.Cases.{Case, kernel, _over_, minus_over_, g, I, cases, textbook-example, textbook-moves, textbook-whole, textbook-inverses, textbook-zero, editions}
 
 pub marked : map (λ (c : Case). c .gives) cases ≡ map (λ (c : Case). c .wants) cases
 unfolding cases ofBits add sub mul div neg lt le eq isNan
@@ -47,3 +47,8 @@ zero-gives = refl
 pub inverses-give : map (λ (c : Case). c .gives) textbook-inverses ≡ map (λ (c : Case). c .wants) textbook-inverses
 unfolding textbook-inverses ofBits add sub mul div neg lt le eq isNan
 inverses-give = refl
+
+-- (the root is unfolded by way of `cases`)
+pub editions-give : map (λ (c : Case). c .gives) editions ≡ map (λ (c : Case). c .wants) editions
+unfolding editions cases ofBits add sub mul div neg lt le eq ne isNan
+editions-give = refl

@@ -1,4 +1,4 @@
--- Document 01's "Marked cases", in its order, and behind them those of request Six. Definitions only; that each definition gives what its case wants is proofs/Marked.antt.
+-- Document 01's "Marked cases", in its order, and behind them those of requests Six and Seven. Definitions only; that each definition gives what its case wants is proofs/Marked.antt.
 use mathlib.Core.Bool.{true, false}
 use mathlib.Core.List.{List, [], _∷_}
 use Prim.Native.Nat.{ℕ, _^_}
@@ -89,26 +89,30 @@ rejected max-radius ratio radius = session (given (record { session = session-of
 abbrev accepted : (max-radius ratio radius F : Float) → Found
 accepted max-radius ratio radius F = session (given (record { session = session-of max-radius radius F AwaitingDerivatives; point = two ∷ []; ratio = ratio; accepted = true }))
 
--- an SR1TrustRegion session at radius 1: f 10
-abbrev sr1-of : (f : Float) → Phase → Sr1
-sr1-of f phase = record { settings = sr1-settings.by-default 1 5; state = record { radius = one; cost = f; phase = phase; count = 0 } }
+-- an SR1TrustRegion session at radius 1, by an edition: f 10
+abbrev sr1-of : (edition : ℕ) → (f : Float) → Phase → Sr1
+sr1-of edition f phase = record { settings = sr1-settings.updating edition (sr1-settings.by-default 1 5); state = record { radius = one; cost = f; phase = phase; count = 0 } }
 
 -- "SR1, I, s (1, 0)", answered F 9 and the gradient G at the trial (1, 0) of the point (0, 0), with P 2 and ‖s‖ 1
-abbrev updated : (G : List Float) → Found
-updated G =
-    sr1-session (sr1.judgement (sr1-of (10 over 1) (AwaitingCost two one)) 2 (9 over 1) G
+abbrev updated : (edition : ℕ) → (G : List Float) → Found
+updated edition G =
+    sr1-session (sr1.judgement (sr1-of edition (10 over 1) (AwaitingCost two one)) 2 (9 over 1) G
     (nought ∷ nought ∷ []) (one ∷ nought ∷ []) (one ∷ nought ∷ []) g I (zeros (room 2)))
 
 -- accepted, with the Hessian of this diagonal
-abbrev diagonal : (G : List Float) (a b : Float) → Found
-diagonal G a b = sr1-session (given (record {
-  session = sr1-of (9 over 1) Ready;
+abbrev diagonal : (edition : ℕ) → (G : List Float) (a b : Float) → Found
+diagonal edition G a b = sr1-session (given (record {
+  session = sr1-of edition (9 over 1) Ready;
   point = one ∷ nought ∷ [];
   gradient = G;
   hessian = a ∷ nought ∷ nought ∷ b ∷ [];
   ratio = half;
   accepted = true;
 }))
+
+-- "15. G − g (1, 1): q is 0, refusal 8."
+abbrev case-15 : Case
+case-15 = record { gives = updated 1 ((4 over 1) ∷ (5 over 1) ∷ []); wants = sr1-session (refused Range) }
 
 unfoldable pub cases : List Case
 unfolding _over_ minus_over_ zeros cauchy-point dogleg steihaug judgement sr1.judgement
@@ -132,8 +136,8 @@ cases =
     ∷ record { gives = answered (4 over 1) (6 over 1) (6 over 1); wants = accepted (4 over 1) one (4 over 1) (6 over 1) }
     ∷ record { gives = answered hundred (14 over 1) (12 over 1); wants = accepted hundred half (5 over 2) (12 over 1) }
     -- 14. SR1, I, s (1, 0), G − g (3, 0): diagonal 3, 1. 15. G − g (1, 1): q is 0, refusal 8.
-    ∷ record { gives = updated ((6 over 1) ∷ (4 over 1) ∷ []); wants = diagonal ((6 over 1) ∷ (4 over 1) ∷ []) (3 over 1) one }
-    ∷ record { gives = updated ((4 over 1) ∷ (5 over 1) ∷ []); wants = sr1-session (refused Range) }
+    ∷ record { gives = updated 1 ((6 over 1) ∷ (4 over 1) ∷ []); wants = diagonal 1 ((6 over 1) ∷ (4 over 1) ∷ []) (3 over 1) one }
+    ∷ case-15
     ∷ []
 
 -- a matrix of ones, which has no inverse
@@ -168,3 +172,12 @@ textbook-inverses =
 unfoldable pub textbook-zero : Case
 unfolding _over_ minus_over_ textbook-dogleg
 textbook-zero = record { gives = kernel (textbook-dogleg 1 (1 over 2 ^ 1074) ((2 ^ 400 over 1) ∷ []) ((1 over 2 ^ 100) ∷ [])); wants = steps-to 0 ((minus 0 over 1) ∷ []) }
+
+-- "Document 01's case 15 under edition 2 leaves H as it is and is no refusal"; beside it the same input under edition 1, and case 14 under edition 2.
+unfoldable pub editions : List Case
+unfolding _over_ minus_over_ zeros sr1.judgement
+editions =
+    record { gives = updated 2 ((4 over 1) ∷ (5 over 1) ∷ []); wants = diagonal 2 ((4 over 1) ∷ (5 over 1) ∷ []) one one }
+    ∷ case-15
+    ∷ record { gives = updated 2 ((6 over 1) ∷ (4 over 1) ∷ []); wants = diagonal 2 ((6 over 1) ∷ (4 over 1) ∷ []) (3 over 1) one }
+    ∷ []
