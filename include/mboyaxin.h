@@ -57,11 +57,11 @@ mboyaxin_kernel mboyaxin_cauchy_point, mboyaxin_dogleg, mboyaxin_textbook_dogleg
 /* ---- crates/foreign_sessions
 
    A session is three lists that its owner keeps: words and numbers, the same for both kinds, which each call changes in place, and its kind's
-   own settings, which are only read. Before a start layout, kernel, limit, allowance, which dogleg, epsilon, cost and settings stand in their
-   places; nothing else is looked at. What a call does not tell is 0.
+   own settings, which are only read. Before a start layout, kernel, limit, allowance, which dogleg, edition, epsilon, cost and settings stand in
+   their places; nothing else is looked at. What a call does not tell is 0.
 
    The words have grown. LAYOUT holds MBOYAXIN_WORDS, so that lists of another header are told apart: the first ones had five words, the kernel
-   first, the next eight. They are refused by 2 at every call, with nothing written. A header with further words will have another
+   first, the next eight, then nine. They are refused by 2 at every call, with nothing written. A header with further words will have another
    MBOYAXIN_WORDS.
 
    ALLOWANCE, 1 to 1000, is how many trials in a row may be answered with NaN, COUNT how many were: when they are equal a proposal is refused
@@ -69,7 +69,12 @@ mboyaxin_kernel mboyaxin_cauchy_point, mboyaxin_dogleg, mboyaxin_textbook_dogleg
 
    WHICH_DOGLEG is 1 for the ported one or 2 for the one with the textbook's first leg; anything else is refused by 2, whatever the kernel. A new
    fit should take 2: where the border cuts the first leg the ported one may stand still or step too far. An old fit that must be repeated keeps
-   1. */
+   1.
+
+   EDITION is SR1TrustRegion's alone, and TrustRegion does not look at it: by which rule the Hessian is updated, 1 for the ported one or 2 for the
+   textbook's; anything else is refused by 2. A new fit should take 2: 1 is argmin's test, which hardly ever skips, and where the denominator is 0,
+   as with a step of zeros or a Hessian that already fits the new gradient exactly, it divides by zero: the answer is refused by 8, whatever its
+   cost. An old fit that must be repeated keeps 1. */
 
 enum {
     MBOYAXIN_LAYOUT,
@@ -77,6 +82,7 @@ enum {
     MBOYAXIN_LIMIT,
     MBOYAXIN_ALLOWANCE,
     MBOYAXIN_WHICH_DOGLEG,
+    MBOYAXIN_EDITION,
     MBOYAXIN_PHASE,
     MBOYAXIN_COUNT,
     MBOYAXIN_SAID,
@@ -93,6 +99,9 @@ enum { MBOYAXIN_CAUCHY_POINT = 1, MBOYAXIN_DOGLEG, MBOYAXIN_STEIHAUG };
 
 /* which dogleg */
 enum { MBOYAXIN_PORTED_DOGLEG = 1, MBOYAXIN_TEXTBOOK_DOGLEG };
+
+/* the edition of SR1TrustRegion's rule */
+enum { MBOYAXIN_PORTED_UPDATE = 1, MBOYAXIN_TEXTBOOK_UPDATE };
 
 /* the phase */
 enum { MBOYAXIN_READY, MBOYAXIN_AWAITING_COST, MBOYAXIN_AWAITING_DERIVATIVES };

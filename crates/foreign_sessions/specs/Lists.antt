@@ -1,5 +1,5 @@
 -- What both kinds of session share of their lists. Definitions only.
--- Words: 9, their number; kernel, limit, allowance, dogleg; phase, count; what the last call said, passes. Numbers: epsilon; radius, cost; promise and step norm; ratio.
+-- Words: 10, their number; kernel, limit, allowance, dogleg, edition; phase, count; what the last call said, passes. Numbers: epsilon; radius, cost; promise and step norm; ratio.
 use mathlib.Core.Path.{_≡_}
 use mathlib.Core.Bool.{Bool, _&&_, cond}
 use mathlib.Core.List.{List, [], _∷_}
@@ -28,7 +28,7 @@ word words i = getD words i 0
 
 -- the kernel is 0 where the words are of another layout, or the phase is none: refusal 2 meets it
 abbrev pub choice-in : (phase-known : Bool) → (words : List ℕ) → (numbers : List Float) → Choice
-choice-in phase-known words numbers = choosing (word words 4) (choice-of (cond (eqb (word words 0) 9 && phase-known) (word words 1) 0) (at numbers 0) (word words 2))
+choice-in phase-known words numbers = choosing (word words 4) (choice-of (cond (eqb (word words 0) 10 && phase-known) (word words 1) 0) (at numbers 0) (word words 2))
 
 abbrev pub phase-of : Turn → Phase
 phase-of turn = cond (eqb (turn .0) 0) Ready (cond (eqb (turn .0) 1) (AwaitingCost (turn .1) (turn .2)) AwaitingDerivatives)
@@ -52,11 +52,11 @@ pub record Told : Type 0 where
 abbrev pub told : ℕ → List ℕ → List Float → Told
 told number words numbers = record { number = number; words = words; numbers = numbers }
 
--- where a call is taken: the next state and what was said; layout, kernel, limit, allowance, dogleg and epsilon stay
+-- where a call is taken: the next state and what was said; the first six words and epsilon stay
 abbrev pub written : (words : List ℕ) → (numbers : List Float) → State → (said passes : ℕ) → (ratio : Float) → Told
 written words numbers state said passes ratio =
     let turn = turn-of (state .phase) in
-    told 0 (word words 0 ∷ word words 1 ∷ word words 2 ∷ word words 3 ∷ word words 4 ∷ turn .0 ∷ state .count ∷ said ∷ passes ∷ []) (at numbers 0 ∷ state .radius ∷ state .cost ∷ turn .1 ∷ turn .2 ∷ ratio ∷ [])
+    told 0 (word words 0 ∷ word words 1 ∷ word words 2 ∷ word words 3 ∷ word words 4 ∷ word words 5 ∷ turn .0 ∷ state .count ∷ said ∷ passes ∷ []) (at numbers 0 ∷ state .radius ∷ state .cost ∷ turn .1 ∷ turn .2 ∷ ratio ∷ [])
 
 -- a refusal writes nothing
 abbrev pub kept : (words : List ℕ) → (numbers : List Float) → State → Outcome → Told

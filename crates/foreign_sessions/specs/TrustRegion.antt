@@ -15,7 +15,7 @@ use Rattle.foreign_sessions.specs.Lists.{word, choice-in, state-in, Told
 abbrev pub session-in : (phase : ℕ) → (words : List ℕ) → (numbers settings : List Float) → Session
 session-in phase words numbers settings = record {
   settings = allowing (word words 3) (settings-of (choice-in (leb phase 2) words numbers) (at settings 0) (at settings 1) (at settings 2));
-  state = state-in phase (word words 6) numbers;
+  state = state-in phase (word words 7) numbers;
 }
 
 -- a start looks at no phase
@@ -23,4 +23,4 @@ abbrev pub starts : (words : List ℕ) → (numbers settings : List Float) → T
 starts words numbers settings = began words numbers (λ s. s .state) (start (session-in 0 words numbers settings .settings) (at numbers 2))
 
 abbrev pub Driven : (words : List ℕ) → (numbers settings : List Float) → (Session → After → Type 0) → Told → Type 0
-Driven words numbers settings = Lists.Driven (session-in (word words 5) words numbers settings) (λ after. kept words numbers (after .session .state) (after .outcome))
+Driven words numbers settings = Lists.Driven (session-in (word words 6) words numbers settings) (λ after. kept words numbers (after .session .state) (after .outcome))

@@ -1,8 +1,9 @@
 // The sessions as C and Rust may drive them: a session is three lists that its owner keeps. Words and numbers are the same for both kinds,
 // and each call changes them in place; the third list, the kind's own settings, is only read.
-// Words: 9, which is how many there are; kernel, limit, allowance, dogleg; the phase (0 ready, 1 awaiting a cost, 2 awaiting derivatives),
-// the count of hidden trials in a row; what the last call said (0 started, 1 proposed, 2 accepted, 3 rejected, 4 taken, 5 done); the passes
-// of a proposal. Lists of another layout have another first word: the first ones, of five words, had the kernel there, the next 8.
+// Words: 10, which is how many there are; kernel, limit, allowance, dogleg, and the edition of SR1's rule, which TrustRegion passes over;
+// the phase (0 ready, 1 awaiting a cost, 2 awaiting derivatives), the count of hidden trials in a row; what the last call said (0 started,
+// 1 proposed, 2 accepted, 3 rejected, 4 taken, 5 done); the passes of a proposal. Lists of another layout have another first word: the first
+// ones, of five words, had the kernel there, the next 8 and 9.
 // Numbers: epsilon; radius and cost; while a cost is awaited the promise (a model value, or SR1's predicted fall) and the step norm; the
 // ratio of a verdict. What a call does not tell is 0.
 // A refusal is its number, and leaves every list as it was; 0 says that there is none. Nothing here passes through one_nan: what is read
@@ -33,10 +34,10 @@ fn kernel_of(kernel: u64, known: bool) -> u64
     if known { kernel } else { 0 }
 }
 
-pub(crate) fn choice_in(phase_known: bool, words: &[u64; 9], numbers: &[f64; 6]) -> Choice
+pub(crate) fn choice_in(phase_known: bool, words: &[u64; 10], numbers: &[f64; 6]) -> Choice
     ensures { λ r. ⌜ r ≡ choice-in «phase_known» (now (words .entry)) (now (numbers .entry)) ⌝ }
 {
-    let known = refusal::both(words[0] == 9, phase_known);
+    let known = refusal::both(words[0] == 10, phase_known);
     let kernel = kernel_of(words[1], known);
     let told = Choice::of(kernel, numbers[0], words[2]);
     told.with_dogleg(words[4])
@@ -74,13 +75,13 @@ fn turn_of(phase: Phase) -> Turn
     }
 }
 
-// Layout, kernel, limit, allowance, dogleg and epsilon stay: no call changes a setting. Where a call is taken epsilon is finite, so no NaN is copied.
+// The first six words and epsilon stay: no call changes a setting. Where a call is taken epsilon is finite, so no NaN is copied.
 pub(crate) fn write(
     state: State,
     said: u64,
     passes: u64,
     ratio: f64,
-    words: &mut [u64; 9],
+    words: &mut [u64; 10],
     numbers: &mut [f64; 6],
 ) -> u64
     ensures { λ r. ⌜ told r (now (words .exit)) (now (numbers .exit)) ≡ written (now (words .entry)) (now (numbers .entry)) state said passes ratio ⌝ }
@@ -93,6 +94,7 @@ pub(crate) fn write(
         words[2],
         words[3],
         words[4],
+        words[5],
         turn.0,
         state.count,
         said,
@@ -106,7 +108,7 @@ pub(crate) fn write(
 pub(crate) fn keep(
     state: State,
     outcome: Outcome,
-    words: &mut [u64; 9],
+    words: &mut [u64; 10],
     numbers: &mut [f64; 6],
 ) -> u64
     ensures { λ r. ⌜ told r (now (words .exit)) (now (numbers .exit)) ≡ kept (now (words .entry)) (now (numbers .entry)) state outcome ⌝ }

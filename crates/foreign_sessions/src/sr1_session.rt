@@ -10,14 +10,15 @@ ghost use Rattle.sr1.specs.Calls.{Proposes, Judges};
 ghost use Rattle.foreign_sessions.specs.Lists.{told};
 ghost use Rattle.foreign_sessions.specs.Sr1.{session-in, starts, Driven};
 
-fn session_in(phase: u64, words: &[u64; 9], numbers: &[f64; 6], settings: &[f64; 4]) -> Session
+fn session_in(phase: u64, words: &[u64; 10], numbers: &[f64; 6], settings: &[f64; 4]) -> Session
     ensures { λ r. ⌜ r ≡ session-in phase (now (words .entry)) (now (numbers .entry)) (now (settings .entry)) ⌝ }
 {
     let choice = crate::choice_in(phase <= 1, words, numbers);
     let told = Settings::of(choice, settings[0], settings[1], settings[2], settings[3]);
+    let allowed = told.with_allowance(words[3]);
     Session {
-        settings: told.with_allowance(words[3]),
-        state: crate::state_in(phase, words[6], numbers),
+        settings: allowed.with_edition(words[5]),
+        state: crate::state_in(phase, words[7], numbers),
     }
 }
 
@@ -26,7 +27,7 @@ fn session_in(phase: u64, words: &[u64; 9], numbers: &[f64; 6], settings: &[f64;
 // Settings and cost are read; what else the lists held is not looked at.
 #[no_mangle]
 pub extern "C" fn mboyaxin_sr1_start(
-    words: &mut [u64; 9],
+    words: &mut [u64; 10],
     numbers: &mut [f64; 6],
     settings: &[f64; 4],
 ) -> u64
@@ -41,7 +42,7 @@ pub extern "C" fn mboyaxin_sr1_start(
 
 #[no_mangle]
 pub extern "C" fn mboyaxin_sr1_propose(
-    words: &mut [u64; 9],
+    words: &mut [u64; 10],
     numbers: &mut [f64; 6],
     settings: &[f64; 4],
     n: usize,
@@ -56,7 +57,7 @@ pub extern "C" fn mboyaxin_sr1_propose(
         s (now (step .entry)) (now (trial .entry)) (now (scratch .entry)) after (now (step .exit)) (now (trial .exit)) (now (scratch .exit)))
         (told r (now (words .exit)) (now (numbers .exit))) ⌝ }
 {
-    let s = session_in(words[5], words, numbers, settings);
+    let s = session_in(words[6], words, numbers, settings);
     let after = sr1_trustregion::proposed(s, n, point, gradient, hessian, step, trial, scratch);
     let outcome = after.outcome;
     crate::keep(after.session.state, outcome, words, numbers)
@@ -64,7 +65,7 @@ pub extern "C" fn mboyaxin_sr1_propose(
 
 #[no_mangle]
 pub extern "C" fn mboyaxin_sr1_answer(
-    words: &mut [u64; 9],
+    words: &mut [u64; 10],
     numbers: &mut [f64; 6],
     settings: &[f64; 4],
     n: usize,
@@ -81,7 +82,7 @@ pub extern "C" fn mboyaxin_sr1_answer(
         s (now (point .entry)) (now (gradient .entry)) (now (hessian .entry)) (now (scratch .entry)) after (now (point .exit)) (now (gradient .exit)) (now (hessian .exit)) (now (scratch .exit)))
         (told r (now (words .exit)) (now (numbers .exit))) ⌝ }
 {
-    let s = session_in(words[5], words, numbers, settings);
+    let s = session_in(words[6], words, numbers, settings);
     let after = sr1_trustregion::judged(
         s,
         n,

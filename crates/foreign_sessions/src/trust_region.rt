@@ -10,14 +10,14 @@ ghost use Rattle.trustregion.specs.Calls.{Proposes, Judges, Renews};
 ghost use Rattle.foreign_sessions.specs.Lists.{told};
 ghost use Rattle.foreign_sessions.specs.TrustRegion.{session-in, starts, Driven};
 
-fn session_in(phase: u64, words: &[u64; 9], numbers: &[f64; 6], settings: &[f64; 3]) -> Session
+fn session_in(phase: u64, words: &[u64; 10], numbers: &[f64; 6], settings: &[f64; 3]) -> Session
     ensures { λ r. ⌜ r ≡ session-in phase (now (words .entry)) (now (numbers .entry)) (now (settings .entry)) ⌝ }
 {
     let choice = crate::choice_in(phase <= 2, words, numbers);
     let told = Settings::of(choice, settings[0], settings[1], settings[2]);
     Session {
         settings: told.with_allowance(words[3]),
-        state: crate::state_in(phase, words[6], numbers),
+        state: crate::state_in(phase, words[7], numbers),
     }
 }
 
@@ -26,7 +26,7 @@ fn session_in(phase: u64, words: &[u64; 9], numbers: &[f64; 6], settings: &[f64;
 // Settings and cost are read; what else the lists held is not looked at.
 #[no_mangle]
 pub extern "C" fn mboyaxin_trustregion_start(
-    words: &mut [u64; 9],
+    words: &mut [u64; 10],
     numbers: &mut [f64; 6],
     settings: &[f64; 3],
 ) -> u64
@@ -41,7 +41,7 @@ pub extern "C" fn mboyaxin_trustregion_start(
 
 #[no_mangle]
 pub extern "C" fn mboyaxin_trustregion_propose(
-    words: &mut [u64; 9],
+    words: &mut [u64; 10],
     numbers: &mut [f64; 6],
     settings: &[f64; 3],
     n: usize,
@@ -56,7 +56,7 @@ pub extern "C" fn mboyaxin_trustregion_propose(
         s (now (step .entry)) (now (trial .entry)) (now (scratch .entry)) after (now (step .exit)) (now (trial .exit)) (now (scratch .exit)))
         (told r (now (words .exit)) (now (numbers .exit))) ⌝ }
 {
-    let s = session_in(words[5], words, numbers, settings);
+    let s = session_in(words[6], words, numbers, settings);
     let after = trustregion_method::proposed(s, n, point, gradient, hessian, step, trial, scratch);
     let outcome = after.outcome;
     crate::keep(after.session.state, outcome, words, numbers)
@@ -64,7 +64,7 @@ pub extern "C" fn mboyaxin_trustregion_propose(
 
 #[no_mangle]
 pub extern "C" fn mboyaxin_trustregion_answer_cost(
-    words: &mut [u64; 9],
+    words: &mut [u64; 10],
     numbers: &mut [f64; 6],
     settings: &[f64; 3],
     n: usize,
@@ -75,7 +75,7 @@ pub extern "C" fn mboyaxin_trustregion_answer_cost(
     ensures { λ r. ⌜ Driven (now (words .entry)) (now (numbers .entry)) (now (settings .entry)) (λ s after. Judges (judgement s n cost (now (point .entry)) (now (trial .entry))) s (now (point .entry)) after (now (point .exit)))
         (told r (now (words .exit)) (now (numbers .exit))) ⌝ }
 {
-    let s = session_in(words[5], words, numbers, settings);
+    let s = session_in(words[6], words, numbers, settings);
     let after = trustregion_method::judged(s, n, cost, point, trial);
     let outcome = after.outcome;
     crate::keep(after.session.state, outcome, words, numbers)
@@ -83,7 +83,7 @@ pub extern "C" fn mboyaxin_trustregion_answer_cost(
 
 #[no_mangle]
 pub extern "C" fn mboyaxin_trustregion_answer_derivatives(
-    words: &mut [u64; 9],
+    words: &mut [u64; 10],
     numbers: &mut [f64; 6],
     settings: &[f64; 3],
     n: usize,
@@ -96,7 +96,7 @@ pub extern "C" fn mboyaxin_trustregion_answer_derivatives(
         s (now (gradient .entry)) (now (hessian .entry)) after (now (gradient .exit)) (now (hessian .exit)))
         (told r (now (words .exit)) (now (numbers .exit))) ⌝ }
 {
-    let s = session_in(words[5], words, numbers, settings);
+    let s = session_in(words[6], words, numbers, settings);
     let after = trustregion_method::renewed(s, n, new_gradient, new_hessian, gradient, hessian);
     let outcome = after.outcome;
     crate::keep(after.session.state, outcome, words, numbers)
