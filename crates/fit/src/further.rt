@@ -4,11 +4,13 @@ use crate::script;
 use crate::script::Got;
 use crate::script::Script;
 use kernels::choice::Choice;
-use trustregion::settings::Settings;
+use sr1::settings::Settings;
 
+// TrustRegion passes over the edition.
 pub(crate) struct Further {
     pub(crate) allowance: u64,
     pub(crate) dogleg: u64,
+    pub(crate) edition: u64,
 }
 
 // The settings, and the words behind them.
@@ -24,10 +26,11 @@ pub(crate) fn are_told(kind: u64) -> bool {
 
 // How many a kind knows.
 fn known(kind: u64) -> u64 {
-    if are_told(kind) {
-        return 2;
+    match kind {
+        3 => 2,
+        4 => 3,
+        _ => 0,
     }
-    0
 }
 
 // More than the kind knows cut the script off.
@@ -50,11 +53,13 @@ fn many(room: &mut [u8], kind: u64, script: Script) -> Got {
 fn settings(room: &mut [u8], many: u64, script: Script) -> Told {
     let allowance = setting(room, many, 0, Settings::ALLOWANCE, script);
     let dogleg = setting(room, many, 1, Choice::DOGLEG, allowance.script);
-    let rest = dogleg.script;
+    let edition = setting(room, many, 2, Settings::EDITION, dogleg.script);
+    let rest = edition.script;
     Told {
         further: Further {
             allowance: allowance.word,
             dogleg: dogleg.word,
+            edition: edition.word,
         },
         script: rest,
     }

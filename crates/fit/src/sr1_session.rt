@@ -28,7 +28,8 @@ pub(crate) fn begin(
     let choice = Choice::of(kernel, numbers[4], limit);
     let chosen = choice.with_dogleg(further.dogleg);
     let told = Settings::of(chosen, numbers[0], numbers[1], numbers[2], numbers[3]);
-    let settings = told.with_allowance(further.allowance);
+    let allowed = told.with_allowance(further.allowance);
+    let settings = allowed.with_edition(further.edition);
     let start = sr1_trustregion::start(settings, cost);
     match start {
         Start::Refused(r) => {
