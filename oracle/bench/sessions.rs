@@ -2,14 +2,17 @@
 //! (`crates/foreign_sessions`, which the script bench-argmin links) fit the same function from the
 //! same point, trial by trial, in turns; the best round of each counts. Both ask for the cost, and for
 //! derivatives where they need them, of the same code, and its time is in both. argmin has no second
-//! dogleg: a fit by it is timed beside ours by the ported one, and held against the oracle's.
+//! dogleg and no second edition of SR1's test: a fit by these is timed beside ours by the ported ones, and
+//! held against the oracle's.
 
 use argmin::core::{CostFunction, Error, Gradient, Hessian, Problem, Solver, State};
 use argmin::solver::quasinewton::SR1TrustRegion;
 use argmin::solver::trustregion::{CauchyPoint, Dogleg, Steihaug, TrustRegion, TrustRegionRadius};
 use oracle::argmin_kernels::KernelState;
 use oracle::random::{with_exponent, Random};
-use oracle::session::{Formulas, Kind, Phase, Settings, Station, PORTED, TEXTBOOK};
+use oracle::session::{
+    Formulas, Kind, Phase, Settings, Station, PORTED, PORTED_UPDATE, TEXTBOOK, TEXTBOOK_UPDATE,
+};
 use oracle::step::Kernel;
 use oracle::vector::{Matrix, Vector};
 use std::hint::black_box;
@@ -170,25 +173,40 @@ fn by_argmin(sr1: bool, kernel: Kernel, model: &Model, start: &Start) -> Vector 
 
 // ---- the oracle
 
-/// The end of a fit by the second dogleg, as the request's text has it.
-fn by_oracle(sr1: bool, model: &Model, start: &Start) -> Vector {
+/// The number of a kernel, and that of a dogleg.
+fn numbers_of(kernel: Kernel) -> (u64, u64) {
+    match kernel {
+        Kernel::Cauchy => (1, PORTED),
+        Kernel::Dogleg => (2, PORTED),
+        Kernel::Steihaug => (3, PORTED),
+        Kernel::Textbook => (2, TEXTBOOK),
+    }
+}
+
+/// The end of a fit by the second dogleg or under the second edition, as the requests' texts have them.
+fn by_oracle(fit: Fit, model: &Model, start: &Start) -> Vector {
     let n = model.q.size() as u64;
-    let (kind, eta) = if sr1 {
-        let (factor, tol_grad) = (FACTOR, TOL_GRAD);
-        (Kind::Sr1 { factor, tol_grad }, SR1_ETA)
+    let (kernel, dogleg) = numbers_of(fit.kernel);
+    let (kind, eta) = if fit.sr1 {
+        let kind = Kind::Sr1 {
+            factor: FACTOR,
+            tol_grad: TOL_GRAD,
+            edition: fit.edition,
+        };
+        (kind, SR1_ETA)
     } else {
         let max_radius = MAX_RADIUS;
         (Kind::TrustRegion { max_radius }, ETA)
     };
     let settings = Settings {
         kind,
-        kernel: 2,
+        kernel,
         radius: RADIUS,
         eta,
         epsilon: EPSILON,
         limit: n,
         allowance: ALLOWANCE,
-        dogleg: TEXTBOOK,
+        dogleg,
     };
     let (point, gradient) = (start.point.clone(), start.gradient.clone());
     let station = Station::start(settings, start.cost, point, gradient, start.hessian.clone());
@@ -196,7 +214,7 @@ fn by_oracle(sr1: bool, model: &Model, start: &Start) -> Vector {
     for _ in 0..TRIALS {
         station.propose(n, &Formulas).expect("a proposal");
         let cost = model.cost_at(&station.trial);
-        let gradient = sr1.then(|| model.gradient_at(&station.trial));
+        let gradient = fit.sr1.then(|| model.gradient_at(&station.trial));
         let verdict = station.answer(n, cost, gradient.as_ref(), &Formulas);
         verdict.expect("a verdict");
         if station.phase == Phase::Derivatives {
@@ -210,7 +228,7 @@ fn by_oracle(sr1: bool, model: &Model, start: &Start) -> Vector {
 // ---- ours
 
 // include/mboyaxin.h says what each is given. A list is a pointer and its length.
-const WORDS: usize = 9;
+const WORDS: usize = 10;
 type List = *const f64;
 type Lent = *mut f64;
 type Words<'a> = &'a mut [u64; WORDS];
@@ -231,9 +249,9 @@ unsafe extern "C" {
         step: List, _: usize, trial: List, _: usize, gradient: Lent, _: usize, hessian: Lent, _: usize, scratch: Lent, _: usize) -> u64;
 }
 
-/// The phase's place among the words (how many there are, kernel, limit, allowance, which dogleg, phase, count, what was said,
-/// passes), and the phase in which derivatives are due.
-const PHASE: usize = 5;
+/// The phase's place among the words (how many there are, kernel, limit, allowance, which dogleg, edition, phase, count, what was
+/// said, passes), and the phase in which derivatives are due.
+const PHASE: usize = 6;
 const AWAITING_DERIVATIVES: u64 = 2;
 /// So many NaN answers in a row are allowed: the most that may be.
 const ALLOWANCE: u64 = 1_000;
@@ -249,16 +267,19 @@ fn done(refusal: u64) {
     assert_eq!(refusal, 0, "our fit goes through");
 }
 
-fn by_rattle(sr1: bool, kernel: Kernel, model: &Model, start: &Start, lists: &mut Lists) -> Vector {
+/// Which fit is timed. TrustRegion does not look at the edition.
+#[derive(Clone, Copy)]
+struct Fit {
+    sr1: bool,
+    kernel: Kernel,
+    edition: u64,
+}
+
+fn by_rattle(fit: Fit, model: &Model, start: &Start, lists: &mut Lists) -> Vector {
     let n = model.q.size();
-    let (kernel, dogleg) = match kernel {
-        Kernel::Cauchy => (1, PORTED),
-        Kernel::Dogleg => (2, PORTED),
-        Kernel::Steihaug => (3, PORTED),
-        Kernel::Textbook => (2, TEXTBOOK),
-    };
-    let words = [WORDS as u64, kernel, n as u64, ALLOWANCE, dogleg, 0, 0, 0, 0];
-    if sr1 {
+    let (kernel, dogleg) = numbers_of(fit.kernel);
+    let words = [WORDS as u64, kernel, n as u64, ALLOWANCE, dogleg, fit.edition, 0, 0, 0, 0];
+    if fit.sr1 {
         by_our_sr1(words, model, start, lists)
     } else {
         by_our_trustregion(words, model, start, lists)
@@ -340,7 +361,8 @@ fn seconds(fits: usize, mut fit: impl FnMut() -> Vector) -> f64 {
     start.elapsed().as_secs_f64()
 }
 
-fn bench(sr1: bool, kernel: Kernel, n: usize) {
+fn bench(fit: Fit, n: usize) {
+    let Fit { sr1, kernel, edition } = fit;
     let model = Model::new(n);
     let mut start = model.start();
     if sr1 {
@@ -355,18 +377,20 @@ fn bench(sr1: bool, kernel: Kernel, n: usize) {
         scratch: vec![0.0; 2 * n * n + 8 * n],
     };
     let (mut lists, mut others) = (lent(), lent());
-    let textbook = kernel == Kernel::Textbook;
-    let mut other = || {
-        if textbook {
-            by_rattle(sr1, Kernel::Dogleg, black_box(&model), &start, &mut others)
-        } else {
-            by_argmin(sr1, kernel, black_box(&model), &start)
-        }
+    // Ours with the ported dogleg or test, where argmin has none like it.
+    let ported = match (kernel, edition) {
+        (Kernel::Textbook, _) => Some(Fit { kernel: Kernel::Dogleg, ..fit }),
+        (_, TEXTBOOK_UPDATE) => Some(Fit { edition: PORTED_UPDATE, ..fit }),
+        _ => None,
     };
-    let mut rattle = || by_rattle(sr1, kernel, black_box(&model), &start, &mut lists);
+    let mut other = || match ported {
+        Some(ported) => by_rattle(ported, black_box(&model), &start, &mut others),
+        None => by_argmin(sr1, kernel, black_box(&model), &start),
+    };
+    let mut rattle = || by_rattle(fit, black_box(&model), &start, &mut lists);
     let bits = |x: Vector| x.0.iter().map(|x| x.to_bits()).collect::<Vec<_>>();
-    let end = if textbook {
-        by_oracle(sr1, &model, &start)
+    let end = if ported.is_some() {
+        by_oracle(fit, &model, &start)
     } else {
         other()
     };
@@ -386,26 +410,36 @@ fn bench(sr1: bool, kernel: Kernel, n: usize) {
     );
 }
 
+fn heading(other: &str) {
+    println!(
+        "{:14} {:8} {:>3} {other:>10} {:>10}",
+        "", "", "n", "Rattle"
+    );
+}
+
 fn main() {
     println!("nanoseconds for a trial, best of {ROUNDS} rounds of fits of {TRIALS} trials");
-    println!(
-        "{:14} {:8} {:>3} {:>10} {:>10}",
-        "", "", "n", "argmin", "Rattle"
-    );
+    let edition = PORTED_UPDATE;
+    heading("argmin");
     for sr1 in [false, true] {
         for kernel in [Kernel::Cauchy, Kernel::Dogleg, Kernel::Steihaug] {
             for n in SIZES {
-                bench(sr1, kernel, n);
+                bench(Fit { sr1, kernel, edition }, n);
             }
         }
     }
-    println!(
-        "{:14} {:8} {:>3} {:>10} {:>10}",
-        "", "", "n", "Dogleg", "Rattle"
-    );
+    heading("Dogleg");
     for sr1 in [false, true] {
         for n in SIZES {
-            bench(sr1, Kernel::Textbook, n);
+            let kernel = Kernel::Textbook;
+            bench(Fit { sr1, kernel, edition }, n);
+        }
+    }
+    let (sr1, edition) = (true, TEXTBOOK_UPDATE);
+    heading("edition 1");
+    for kernel in [Kernel::Cauchy, Kernel::Dogleg, Kernel::Steihaug] {
+        for n in SIZES {
+            bench(Fit { sr1, kernel, edition }, n);
         }
     }
 }

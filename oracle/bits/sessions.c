@@ -1,5 +1,5 @@
 /* Reads from outside the bits of what the sessions hand out and keep, and of what a refused call leaves: crates/foreign_sessions,
-   over every call of both kinds. */
+   over every call of both kinds, and of SR1TrustRegion under both editions of its test. */
 
 #include "mboyaxin.h"
 #include "see.h"
@@ -19,7 +19,15 @@ static struct station now, was;
 struct kind { const char *name; };
 static const struct kind trustregion = { "TrustRegion" }, sr1 = { "SR1TrustRegion" };
 
-static word calls, said[2][SAYINGS], refused[2][REFUSALS + 1], promises[2], ratios[2];
+/* TrustRegion, and SR1TrustRegion under edition 1 and under edition 2: which of them the calls belong to, and what stands in EDITION. TrustRegion
+   does not look at that: none that there is stands there. */
+#define RUNS 3
+static const word editions[RUNS] = { 7, MBOYAXIN_PORTED_UPDATE, MBOYAXIN_TEXTBOOK_UPDATE };
+static const char *const runs[RUNS] = { "TrustRegion", "SR1TrustRegion, edition 1", "SR1TrustRegion, edition 2" };
+static word run;
+
+/* LEFT counts the answers of SR1TrustRegion that were taken and left each bit of the Hessian. */
+static word calls, said[RUNS][SAYINGS], refused[RUNS][REFUSALS + 1], promises[RUNS], ratios[RUNS], left[RUNS];
 
 /* ---- what a call left */
 
@@ -27,7 +35,7 @@ static word *cells(struct station *s) { return (word *)s; }
 
 /* A refusal leaves every bit; by 6, 7 and 8 the scratch that was lent is +0. */
 static void see_refused(const struct kind *k, word refusal, word room) {
-    refused[k == &sr1][refusal]++;
+    refused[run][refusal]++;
     if (refusal > 5 && refusal < 9)
         for (word i = 0; i < room; i++) was.scratch[i].w = 0;
     for (word i = 0; i < CELLS; i++)
@@ -40,9 +48,9 @@ static void see_taken(const struct kind *k) {
         if (nan_bits(now.numbers[i].w)) see(k->name, i, now.numbers[i].w, i == MBOYAXIN_PROMISE || i == MBOYAXIN_RATIO ? ONE_NAN : 0);
     for (word i = MBOYAXIN_WORDS + MBOYAXIN_NUMBERS; i < CELLS; i++)
         if (nan_bits(cells(&now)[i]) && cells(&now)[i] != cells(&was)[i]) see(k->name, i, cells(&now)[i], cells(&was)[i]);
-    said[k == &sr1][now.words[MBOYAXIN_SAID]]++;
-    promises[k == &sr1] += nan_bits(now.numbers[MBOYAXIN_PROMISE].w);
-    ratios[k == &sr1] += nan_bits(now.numbers[MBOYAXIN_RATIO].w);
+    said[run][now.words[MBOYAXIN_SAID]]++;
+    promises[run] += nan_bits(now.numbers[MBOYAXIN_PROMISE].w);
+    ratios[run] += nan_bits(now.numbers[MBOYAXIN_RATIO].w);
 }
 
 static word looked(const struct kind *k, word room, word refusal) {
@@ -69,12 +77,20 @@ static word proposed(const struct kind *k, word n) {
         &now.gradient[0].x, n, &now.hessian[0].x, n * n, &now.step[0].x, n, &now.trial[0].x, n, &now.scratch[0].x, room(n)));
 }
 
+static word hessian_is_left(word n) {
+    for (word i = 0; i < n * n; i++)
+        if (now.hessian[i].w != was.hessian[i].w) return 0;
+    return 1;
+}
+
 static word answered(const struct kind *k, word n, double cost) {
     was = now;
-    return looked(k, k == &sr1 ? room(n) : 0, k == &sr1
+    word refusal = looked(k, k == &sr1 ? room(n) : 0, k == &sr1
         ? mboyaxin_sr1_answer(OWN, n, cost, &now.new_gradient[0].x, n, &now.point[0].x, n, &now.step[0].x, n,
               &now.trial[0].x, n, &now.gradient[0].x, n, &now.hessian[0].x, n * n, &now.scratch[0].x, room(n))
         : mboyaxin_trustregion_answer_cost(OWN, n, cost, &now.point[0].x, n, &now.trial[0].x, n));
+    left[run] += k == &sr1 && refusal == 0 && hessian_is_left(n);
+    return refusal;
 }
 
 static word renewed(word n) {
@@ -99,7 +115,7 @@ static void station_by(const struct kind *k, word kernel, word dogleg, word phas
     static const double settings[2][MBOYAXIN_SR1_SETTINGS] = { { 1.0, 100.0, 0.125, 0.0 }, { 1.0, 0.5e-3, 1e-8, 0.0 } };
     now = (struct station){
         .words = { [MBOYAXIN_LAYOUT] = MBOYAXIN_WORDS, [MBOYAXIN_KERNEL] = kernel, [MBOYAXIN_LIMIT] = 5, [MBOYAXIN_ALLOWANCE] = ALLOWANCE,
-            [MBOYAXIN_WHICH_DOGLEG] = dogleg, [MBOYAXIN_PHASE] = phase },
+            [MBOYAXIN_WHICH_DOGLEG] = dogleg, [MBOYAXIN_EDITION] = editions[run], [MBOYAXIN_PHASE] = phase },
         .numbers[MBOYAXIN_EPSILON].x = 1e-9,
     };
     for (int i = 0; i < MBOYAXIN_SR1_SETTINGS; i++) now.settings[i].x = settings[k == &sr1][i];
@@ -182,7 +198,8 @@ static void see_starts(const struct kind *k) {
     }
 }
 
-/* SR1's answer over every step, gradient, Hessian, new gradient and trial; and the Hessian's update at n = 2. */
+/* SR1's answer over every step, gradient, Hessian, new gradient and trial; and the Hessian's update at n = 2, with a factor under which the
+   book's test skips more often. */
 static void see_updates(void) {
     const double some[4] = { 1.0, -1e154, top, 1e-200 }, costs[3] = { 1.0, -1.0, number(0xfff8000000000001) };
     for (word i = 0; i < 3 * power(SOURCES, 5); i++) {
@@ -201,6 +218,7 @@ static void see_updates(void) {
         fill(now.hessian, 4, i >> 8, some, 4);
         fill(now.new_gradient, 2, i >> 16, some, 4);
         now.trial[0].x = now.trial[1].x = 1.0;
+        if (i % 2) now.settings[MBOYAXIN_SR1_SET_FACTOR].x = 0.5;
         now.numbers[MBOYAXIN_RADIUS].x = now.numbers[MBOYAXIN_PROMISE].x = now.numbers[MBOYAXIN_NORM].x = 1.0;
         answered(&sr1, 2, -1.0);
     }
@@ -242,10 +260,27 @@ static void see_out_of_turn(const struct kind *k) {
                     }
 }
 
+/* Editions that are none, and one that is in its low half: refused by 2 at every call, whatever the kernel and the phase, with nothing written. */
+static void see_editions(void) {
+    static const word none[] = { 0, 3, 4, 1UL << 32, 1UL << 32 | 1, 1UL << 32 | 2, 1UL << 63 | 1, ~0UL };
+    for (word choice = 0; choice < KERNELS; choice++)
+        for (word edition = 0; edition < sizeof none / sizeof(word); edition++)
+            for (word phase = 0; phase < 3; phase++)
+                for (word n = 1; n < 3; n++)
+                    for (int call = 0; call < 3; call++) {
+                        station(&sr1, choice, phase);
+                        now.words[MBOYAXIN_EDITION] = none[edition];
+                        now.numbers[MBOYAXIN_RADIUS].x = now.numbers[MBOYAXIN_COST].x = now.numbers[MBOYAXIN_PROMISE].x = now.numbers[MBOYAXIN_NORM].x = 1.0;
+                        word refusal = call == 0 ? proposed(&sr1, n) : call == 1 ? answered(&sr1, n, 1.0) : started(&sr1);
+                        if (refusal != 2) see(sr1.name, none[edition], refusal, 2);
+                    }
+}
+
 /* Every call with the count below, at and above the allowance, and with words of another layout; NaN in every list. A proposal at the
-   allowance is refused by 9 and leaves the scratch its bits, also where the kernel would have refused. */
+   allowance is refused by 9 and leaves the scratch its bits, also where the kernel would have refused. Words of another layout, older ones of five,
+   eight and nine words among them, are refused by 2. */
 static void see_hidden(const struct kind *k) {
-    static const word layouts[] = { MBOYAXIN_WORDS, 0, 1, 2, 3, 5, 8, 1UL << 32 | MBOYAXIN_WORDS }, counts[] = { 0, 1, ALLOWANCE, ALLOWANCE + 1, ~0UL };
+    static const word layouts[] = { MBOYAXIN_WORDS, 0, 1, 2, 3, 5, 8, 9, 1UL << 32 | MBOYAXIN_WORDS }, counts[] = { 0, 1, ALLOWANCE, ALLOWANCE + 1, ~0UL };
     for (word choice = 0; choice < KERNELS; choice++)
         for (word layout = 0; layout < sizeof layouts / sizeof(word); layout++)
             for (word count = 0; count < sizeof counts / sizeof(word); count++)
@@ -259,26 +294,31 @@ static void see_hidden(const struct kind *k) {
                             now.numbers[MBOYAXIN_PROMISE].x = now.numbers[MBOYAXIN_NORM].x = phase == MBOYAXIN_AWAITING_COST;
                             now.point[0].x = now.gradient[0].x = now.step[0].x = now.trial[0].x = now.new_gradient[0].x = now.new_hessian[0].x = 1.0;
                             now.hessian[0].w = sources[i];
-                            if (call == 0) proposed(k, 1);
-                            else if (call == 1) answered(k, 1, number(sources[i]));
-                            else if (k == &trustregion) renewed(1);
+                            word refusal = 2;
+                            if (call == 0) refusal = proposed(k, 1);
+                            else if (call == 1) refusal = answered(k, 1, number(sources[i]));
+                            else if (k == &trustregion) refusal = renewed(1);
+                            if (layout && refusal != 2) see(k->name, layouts[layout], refusal, 2);
                         }
 }
 
 void see_sessions(void) {
-    const struct kind *const kinds[2] = { &trustregion, &sr1 };
-    for (int i = 0; i < 2; i++) {
-        see_all_proposals(kinds[i]);
-        see_phases(kinds[i]);
-        see_starts(kinds[i]);
-        see_out_of_turn(kinds[i]);
-        see_hidden(kinds[i]);
+    for (run = 0; run < RUNS; run++) {
+        const struct kind *k = run ? &sr1 : &trustregion;
+        see_all_proposals(k);
+        see_phases(k);
+        see_starts(k);
+        see_out_of_turn(k);
+        see_hidden(k);
+        if (k == &sr1) {
+            see_updates();
+            see_editions();
+        } else see_renewals();
     }
-    see_updates();
-    see_renewals();
     printf("sessions: %lu calls\n", calls);
-    for (int i = 0; i < 2; i++) {
-        printf("%s: %lu NaN %s, %lu NaN ratios; ", kinds[i]->name, promises[i], i ? "predicted falls" : "model values", ratios[i]);
+    for (int i = 0; i < RUNS; i++) {
+        printf("%s: %lu NaN %s, %lu NaN ratios; ", runs[i], promises[i], i ? "predicted falls" : "model values", ratios[i]);
+        if (i) printf("%lu answers left the Hessian; ", left[i]);
         for (int j = 0; j < SAYINGS; j++) printf("%s %lu, ", sayings[j], said[i][j]);
         for (int j = 1; j <= REFUSALS; j++) printf(j < REFUSALS ? "refused %d %lu, " : "refused %d %lu\n", j, refused[i][j]);
     }

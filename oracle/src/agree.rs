@@ -91,8 +91,8 @@ pub fn report_sessions(count: u64, seed: u64, out: &mut impl Write) -> io::Resul
 #[cfg(test)]
 mod tests {
     use super::*;
-    use crate::session::{PORTED, TEXTBOOK};
-    use crate::{scripts, special, standing};
+    use crate::session::{PORTED, PORTED_UPDATE, TEXTBOOK, TEXTBOOK_UPDATE};
+    use crate::{edition_examples, editions, marked_editions, scripts, smooth, special, standing};
 
     #[test]
     fn argmin_and_document_agree() {
@@ -120,11 +120,39 @@ mod tests {
         }
     }
 
+    /// Whether both write the same lines; and how many of SR1's answers argmin's own code judged, and at how many of these it did as
+    /// the session's edition does.
+    fn agreed(input: &[u8]) -> [u64; 2] {
+        let (mut by_argmin, mut by_formulas) = (Vec::new(), Vec::new());
+        let tally = scripts::answer(input, &Argmin, &mut by_argmin).unwrap();
+        scripts::answer(input, &Formulas, &mut by_formulas).unwrap();
+        assert!(by_argmin == by_formulas);
+        let all = |row| (0..4).map(|kernel| tally.get(row, kernel)).sum::<u64>();
+        let judged = all("updated") + all("skipped");
+        [judged, judged - all("editions differ")]
+    }
+
     #[test]
     fn marked_sessions_agree() {
-        let (mut by_argmin, mut by_formulas) = (Vec::new(), Vec::new());
-        scripts::answer(&special::input(), &Argmin, &mut by_argmin).unwrap();
-        scripts::answer(&special::input(), &Formulas, &mut by_formulas).unwrap();
-        assert!(by_argmin == by_formulas);
+        agreed(&special::input());
+        agreed(&marked_editions::input());
+    }
+
+    /// Under edition 2 the Hessian is argmin's own often enough for this to say something.
+    #[test]
+    fn both_editions_agree() {
+        for edition in [PORTED_UPDATE, TEXTBOOK_UPDATE] {
+            let [judged, alike] = agreed(&editions::input(3000, 1, edition));
+            assert!(judged > 3000 && alike > 1000, "{judged} {alike}");
+            let [judged, alike] = agreed(&smooth::of_edition(300, 1, edition));
+            assert!(judged > 1500 && alike > 1000, "{judged} {alike}");
+            for example in [edition_examples::exact, edition_examples::zero_step] {
+                let (mut by_argmin, mut by_formulas) = (Vec::new(), Vec::new());
+                let input = example(edition);
+                replay::answer(&input, &Argmin, &mut by_argmin).unwrap();
+                replay::answer(&input, &Formulas, &mut by_formulas).unwrap();
+                assert!(by_argmin == by_formulas);
+            }
+        }
     }
 }

@@ -1,8 +1,10 @@
 //! A trial of a session as argmin's own `TrustRegion` and `SR1TrustRegion` judge it: one iteration
-//! of theirs, from the session's radius, cost and vectors, with the given answers.
+//! of theirs, from the session's radius, cost and vectors, with the given answers. argmin's test of SR1's
+//! update is edition 1. Under edition 2 all else is argmin's own too, and so is the Hessian wherever its
+//! test and edition 2's come to the same; where they do not, the Hessian is the formulas'.
 
 use crate::argmin_kernels::{self, KernelState};
-use crate::session::{Engine, Kind, Station, Tried, Verdict};
+use crate::session::{Engine, Kind, Secant, Station, Tried, Verdict};
 use crate::step::{Call, Kernel};
 use crate::textbook;
 use crate::vector::{Matrix, Vector};
@@ -29,7 +31,7 @@ impl Engine for Argmin {
     fn judge(&self, station: &Station, tried: &Tried) -> Verdict {
         match station.settings.kind {
             Kind::TrustRegion { max_radius } => trust_region(station, tried, max_radius),
-            Kind::Sr1 { factor, tol_grad } => sr1(station, tried, factor, tol_grad),
+            Kind::Sr1 { .. } => sr1(station, tried),
         }
         .expect("argmin judges every trial that was proposed")
     }
@@ -91,7 +93,15 @@ where
     watch.radius.get()
 }
 
-fn sr1(station: &Station, tried: &Tried, factor: f64, tol_grad: f64) -> Result<Verdict, Error> {
+fn sr1(station: &Station, tried: &Tried) -> Result<Verdict, Error> {
+    let Kind::Sr1 {
+        factor,
+        tol_grad,
+        edition,
+    } = station.settings.kind
+    else {
+        return Err("another kind of session".into());
+    };
     let mut solver = SR1TrustRegion::new(Watched::new(&station.call())?)
         .with_radius(station.radius)
         .with_eta(station.settings.eta)?
@@ -108,12 +118,33 @@ fn sr1(station: &Station, tried: &Tried, factor: f64, tol_grad: f64) -> Result<V
     let ratio = tell("ap")?;
     let accepted = ratio > station.settings.eta;
     check_end(&state, station, tried, accepted)?;
+    let own = state.take_hessian().ok_or("a state without a Hessian")?;
+    let updated = tell("hessian_update")? == 1.0;
     Ok(Verdict {
         ratio,
         accepted,
         radius: tell("radius")?,
-        hessian: state.take_hessian(),
+        hessian: Some(hessian_by(edition, station, tried, own, updated)?),
         point: state.take_param(),
+    })
+}
+
+/// argmin's own Hessian, if its test and that of the edition come to the same; else that of the formulas.
+fn hessian_by(
+    edition: u64,
+    station: &Station,
+    tried: &Tried,
+    own: Matrix,
+    updated: bool,
+) -> Result<Matrix, Error> {
+    let secant = Secant::new(station, tried).ok_or("an answer without a gradient")?;
+    if secant.updates_as_ported() != updated {
+        return Err("argmin's test is not edition 1's".into());
+    }
+    Ok(match secant.updates(edition) {
+        updates if updates == updated => own,
+        true => secant.updated(&station.hessian),
+        false => station.hessian.clone(),
     })
 }
 
@@ -301,7 +332,7 @@ impl Solver<Answers, KernelState> for Watched {
 mod tests {
     use super::*;
     use crate::random::Random;
-    use crate::session::{Formulas, Phase, Proposal, PORTED, TEXTBOOK};
+    use crate::session::{Formulas, Phase, Proposal, PORTED, TEXTBOOK, TEXTBOOK_UPDATE};
     use crate::sessions;
 
     /// A session by the formulas, and the answers that its trials were given.
@@ -319,6 +350,11 @@ mod tests {
         let mut start = sessions::sound_station(&mut random);
         // argmin's solver goes on and on with the second dogleg as with its own kernels.
         start.settings.dogleg = if seed % 2 == 0 { TEXTBOOK } else { PORTED };
+        if let Kind::Sr1 { edition, .. } = &mut start.settings.kind {
+            if seed % 3 == 0 {
+                *edition = TEXTBOOK_UPDATE;
+            }
+        }
         let answers = Answers::default();
         let mut run = Run {
             end: start.clone(),
@@ -337,6 +373,11 @@ mod tests {
             let sr1 = matches!(end.settings.kind, Kind::Sr1 { .. });
             let gradient = sr1.then(|| sessions::trial_gradient(&mut random, end));
             let before = end.clone();
+            if !tests_agree(end, cost, gradient.as_ref()) {
+                // Under edition 2 argmin's run would be another one from here on.
+                end.phase = Phase::Ready;
+                break;
+            }
             let Ok(verdict) = end.answer(n, cost, gradient.as_ref(), &Formulas) else {
                 // argmin refuses nothing: the run ends before this trial.
                 *end = before;
@@ -359,6 +400,25 @@ mod tests {
         (run.trials > 0).then_some(run)
     }
 
+    /// Whether the session's test comes to the same as argmin's.
+    fn tests_agree(station: &Station, cost: f64, gradient: Option<&Vector>) -> bool {
+        let Phase::Cost { promised, norm, .. } = station.phase else {
+            return true;
+        };
+        let tried = Tried {
+            cost,
+            gradient,
+            promised,
+            norm,
+        };
+        match (station.settings.kind, Secant::new(station, &tried)) {
+            (Kind::Sr1 { edition, .. }, Some(secant)) => {
+                secant.updates(edition) == secant.updates_as_ported()
+            }
+            _ => true,
+        }
+    }
+
     /// The same trials by one solver of argmin that goes on and on; its state and radius after.
     fn continued<S>(mut solver: S, watch: &Watch, run: Run) -> Result<(KernelState, f64), Error>
     where
@@ -374,10 +434,45 @@ mod tests {
         Ok((state, radius))
     }
 
+    /// s = (1, −0) and the identity. Where the tests agree the Hessian is argmin's own, where they do not the formulas'.
+    #[test]
+    fn the_hessian_under_edition_2() {
+        let secant = |next: [f64; 2], own: f64, updated: bool| {
+            let mut random = Random::new(1);
+            let mut station = sessions::sound_station(&mut random);
+            station.settings.kind = Kind::Sr1 {
+                factor: 0.5,
+                tol_grad: 0.0,
+                edition: TEXTBOOK_UPDATE,
+            };
+            station.gradient = Vector(vec![-1.0, 0.0]);
+            station.step = Vector(vec![1.0, -0.0]);
+            station.hessian = Matrix::new(2, vec![1.0, 0.0, 0.0, 1.0]);
+            let next = Vector(next.to_vec());
+            let tried = Tried {
+                cost: 0.0,
+                gradient: Some(&next),
+                promised: 1.0,
+                norm: 1.0,
+            };
+            // Numbers that no formula gives: what comes back tells whose it is.
+            let own = Matrix::new(2, vec![own; 4]);
+            let hessian = hessian_by(TEXTBOOK_UPDATE, &station, &tried, own, updated);
+            hessian.map(|hessian| hessian.entries().to_vec()).ok()
+        };
+        assert_eq!(secant([2.0, 0.0], 7.0, true), Some(vec![7.0; 4]));
+        // q is 1, the norm of z is above 2: argmin updates, and edition 2 skips.
+        let left = vec![1.0, 0.0, 0.0, 1.0];
+        assert_eq!(secant([1.0, 4.0], 7.0, true), Some(left.clone()));
+        assert_eq!(secant([0.0, 1.0], 7.0, true), Some(left));
+        // An argmin whose test is another one is found out.
+        assert_eq!(secant([2.0, 0.0], 7.0, false), None);
+    }
+
     #[test]
     fn whole_runs_agree() {
         let (mut runs, mut accepted) = ([0; 2], 0);
-        let mut textbook = 0;
+        let (mut textbook, mut by_the_book) = (0, 0);
         for run in (0..3000).filter_map(run) {
             let end = run.end.clone();
             let settings = end.settings;
@@ -394,8 +489,13 @@ mod tests {
                         .and_then(|solver| solver.with_eta(settings.eta));
                     continued(solver.unwrap(), &watch, run)
                 }
-                Kind::Sr1 { factor, tol_grad } => {
+                Kind::Sr1 {
+                    factor,
+                    tol_grad,
+                    edition,
+                } => {
                     runs[1] += 1;
+                    by_the_book += u64::from(edition == TEXTBOOK_UPDATE);
                     let solver = SR1TrustRegion::new(kernel)
                         .with_radius(settings.radius)
                         .with_eta(settings.eta)
@@ -418,6 +518,9 @@ mod tests {
             runs[0] > 300 && runs[1] > 300 && accepted > 2000,
             "{runs:?} {accepted}"
         );
-        assert!(textbook > 100, "{textbook}");
+        assert!(
+            textbook > 100 && by_the_book > 100,
+            "{textbook} {by_the_book}"
+        );
     }
 }

@@ -13,6 +13,9 @@ pub mod calls;
 pub mod cases;
 pub mod damaged;
 pub mod decimals;
+pub mod edition_examples;
+pub mod edition_slips;
+pub mod editions;
 pub mod fit;
 pub mod formulas;
 pub mod geometry;
@@ -20,6 +23,7 @@ pub mod hidden;
 pub mod input;
 pub mod leaves;
 pub mod legs;
+pub mod marked_editions;
 pub mod marked_legs;
 #[cfg(all(test, feature = "argmin"))]
 mod outside;

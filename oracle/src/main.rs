@@ -1,10 +1,11 @@
 //! The developers' oracle: its words are in README.md and below.
 
-use oracle::session::{PORTED, TEXTBOOK};
+use oracle::session::{PORTED, PORTED_UPDATE, TEXTBOOK, TEXTBOOK_UPDATE};
 use oracle::step::{self, Answer};
 use oracle::{
-    calls, cases, damaged, decimals, fit, formulas, geometry, leaves, legs, pivots, replay, roots,
-    scripts, sessions, slips, smooth, special, standing, table, textbook_slips,
+    calls, cases, damaged, decimals, edition_examples, edition_slips, editions, fit, formulas,
+    geometry, leaves, legs, marked_editions, pivots, replay, roots, scripts, sessions, slips,
+    smooth, special, standing, table, textbook_slips,
 };
 use std::cell::RefCell;
 use std::env;
@@ -30,6 +31,10 @@ usage: oracle leaves [--counts]    answer the calls on standard input, as progra
        oracle fit-example          write the example of program `replay`
        oracle standing CHOICE      write the fit that stood on its start, for program `replay`: by the
                                    ported dogleg (1) or the second one (2)
+       oracle edition-example EDITION
+                                   write a fit whose Hessian is right from the start, for program `replay`: under
+                                   edition 1 every answer is refused, under edition 2 it arrives
+       oracle zero-step EDITION    the same of the ported dogleg's zero step
        oracle replay               answer an input of it, by argmin's own code where that is built
                                    in, else by the formulas
        oracle scripts COUNT SEED [KIND]
@@ -37,7 +42,17 @@ usage: oracle leaves [--counts]    answer the calls on standard input, as progra
                                    this kind (1 to 4), else of kinds 1 and 2
        oracle smooth COUNT SEED KIND
                                    the same: fits of smooth functions, some dozen trials each
+       oracle smooth COUNT SEED 4 EDITION
+                                   the same: they name their edition
        oracle special              the same: marked sessions that chance would hardly make
+       oracle editions COUNT SEED EDITION
+                                   the same: sessions of kind 4 at the borders of both editions' tests
+       oracle edition-borders COUNT SEED EDITION
+                                   tell how many answers of these lie on each border
+       oracle special-editions     the same: marked sessions of request Seven
+       oracle edition-slips COUNT SEED
+                                   tell how many scripts each wrong program about the editions answers
+                                   wrongly
        oracle textbook COUNT SEED  the same: single proposals of the second dogleg, on every leg and border
        oracle textbook-legs COUNT SEED
                                    tell how many of these lie on each leg
@@ -90,6 +105,18 @@ fn main() -> ExitCode {
             Ok(choice @ (PORTED | TEXTBOOK)) => write_all(&standing::input(choice)),
             _ => return usage(),
         },
+        ["edition-example", edition] => match edition.parse() {
+            Ok(edition @ (PORTED_UPDATE | TEXTBOOK_UPDATE)) => {
+                write_all(&edition_examples::exact(edition))
+            }
+            _ => return usage(),
+        },
+        ["zero-step", edition] => match edition.parse() {
+            Ok(edition @ (PORTED_UPDATE | TEXTBOOK_UPDATE)) => {
+                write_all(&edition_examples::zero_step(edition))
+            }
+            _ => return usage(),
+        },
         ["replay"] => answer_replay(),
         ["replay", "--many"] => answer_scripts(false),
         ["replay", "--many", "--counts"] => answer_scripts(true),
@@ -97,7 +124,32 @@ fn main() -> ExitCode {
             (Ok(count), Ok(seed), Ok(kind @ 1..=4)) => write_all(&smooth::input(count, seed, kind)),
             _ => return usage(),
         },
+        ["smooth", count, seed, "4", edition] => {
+            match (count.parse(), seed.parse(), edition.parse()) {
+                (Ok(count), Ok(seed), Ok(edition @ (PORTED_UPDATE | TEXTBOOK_UPDATE))) => {
+                    write_all(&smooth::of_edition(count, seed, edition))
+                }
+                _ => return usage(),
+            }
+        }
         ["special"] => write_all(&special::input()),
+        ["special-editions"] => write_all(&marked_editions::input()),
+        ["editions", count, seed, edition] => {
+            match (count.parse(), seed.parse(), edition.parse()) {
+                (Ok(count), Ok(seed), Ok(edition @ (PORTED_UPDATE | TEXTBOOK_UPDATE))) => {
+                    write_all(&editions::input(count, seed, edition))
+                }
+                _ => return usage(),
+            }
+        }
+        ["edition-borders", count, seed, edition] => {
+            match (count.parse(), seed.parse(), edition.parse()) {
+                (Ok(count), Ok(seed), Ok(edition @ (PORTED_UPDATE | TEXTBOOK_UPDATE))) => {
+                    editions::report(count, seed, edition, &mut io::stdout())
+                }
+                _ => return usage(),
+            }
+        }
         ["difference", file] => difference(file),
         ["scripts", count, seed, kind] => match (count.parse(), seed.parse(), kind.parse()) {
             (Ok(count), Ok(seed), Ok(kind @ 1..=4)) => {
@@ -127,6 +179,7 @@ fn main() -> ExitCode {
                 "textbook" => write_all(&legs::input(count, seed)),
                 "geometry" => geometry::report(count, seed, &mut io::stdout()),
                 "textbook-slips" => textbook_slips::report(count, seed, &mut io::stdout()),
+                "edition-slips" => edition_slips::report(count, seed, &mut io::stdout()),
                 "textbook-legs" => legs::report(count, seed, &mut io::stdout()),
                 "slips" => slips::report(count, seed, &mut io::stdout()),
                 #[cfg(feature = "argmin")]

@@ -357,6 +357,51 @@ fn sr1_without_a_step() {
     assert!(hessian.iter().all(|entry| entry.is_nan()));
 }
 
+/// Document 01's case 15: s is (1, −0), z is (0, 1), and q is 0. argmin updates nevertheless: 0·(1/0) and 1·(1/0).
+#[test]
+fn sr1_with_z_across_the_step() {
+    let solver = SR1TrustRegion::new(own::CauchyPoint::new());
+    let along = start(20.0).gradient(Vector(vec![-1.0, 0.0]));
+    let run = iterations(solver, along, &[19.5], [0.0, 1.0]);
+    assert_eq!(point(&run[0].0), [1.0, 0.0]);
+    assert_eq!(run[0].1.get("hessian_update"), Some(1.0));
+    let hessian = run[0].0.get_hessian().unwrap().entries();
+    assert!(hessian[..3].iter().all(|entry| entry.is_nan()));
+    assert_eq!(hessian[3], INFINITY);
+}
+
+/// A quadratic whose Hessian is right from the start, the simplest of all fits: z is 0, and after one trial no entry is a number. The
+/// trial itself was accepted, and led to the minimum.
+#[test]
+fn sr1_with_an_exact_model() {
+    let solver = SR1TrustRegion::new(own::CauchyPoint::new()).with_radius(5.0);
+    let run = iterations(solver, start(12.5), &[0.0], [0.0; 2]);
+    assert_eq!(
+        (point(&run[0].0), run[0].0.get_cost()),
+        (&[-3.0, -4.0][..], 0.0)
+    );
+    let hessian = run[0].0.get_hessian().unwrap().entries();
+    assert!(hessian.iter().all(|entry| entry.is_nan()));
+    // Halfway, the next step is asked of such a Hessian: it is a NaN, and nothing is accepted any more.
+    let solver = SR1TrustRegion::new(own::CauchyPoint::new()).with_radius(2.5);
+    let run = iterations(solver, start(12.5), &[3.125, 1.0, 0.0], [1.5, 2.0]);
+    let radii: Vec<_> = run.iter().map(|(_, told)| radius(told)).collect();
+    assert_eq!(radii, [5.0, 2.5, 1.25]);
+    assert!(run.iter().all(|(state, _)| point(state) == [-1.5, -2.0]));
+}
+
+/// The test has |q| on both sides, so that only a long step skips: here 2^30 beside a factor of 1e-8.
+#[test]
+fn sr1_skips_by_the_length_of_the_step() {
+    let updated = |long: f64| {
+        let solver = SR1TrustRegion::new(own::CauchyPoint::new()).with_radius(long);
+        let flat = Matrix::new(2, vec![-1.0, 0.0, 0.0, -1.0]);
+        let run = iterations(solver, start(20.0).hessian(flat), &[19.0], [1.0; 2]);
+        run[0].1.get("hessian_update") == Some(1.0)
+    };
+    assert!(updated(1.0) && updated(1e7) && !updated(1e9));
+}
+
 /// −inf is accepted, and no later cost is: each one halves the radius.
 #[test]
 fn sr1_with_a_cost_of_minus_infinity() {

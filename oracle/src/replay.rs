@@ -2,13 +2,21 @@
 
 use crate::input::Reader;
 use crate::leaves::one_nan;
-use crate::session::{Engine, Kind, Phase, Proposal, Settings, Station, LARGEST_ALLOWANCE, PORTED};
+use crate::session::{
+    Engine, Kind, Phase, Proposal, Settings, Station, LARGEST_ALLOWANCE, PORTED, PORTED_UPDATE,
+};
 use crate::step::LARGEST_SIZE;
 use crate::vector::{Matrix, Vector};
 use std::io::{self, Write};
 
-/// So many further settings each of the kinds 3 and 4 knows: the allowance, and which dogleg.
-pub(crate) const FURTHER: u64 = 2;
+/// So many further settings a kind knows: kinds 3 and 4 the allowance and which dogleg, kind 4 also the edition of SR1's test.
+pub(crate) fn most_further(kind: u64) -> u64 {
+    match kind {
+        3 => 2,
+        4 => 3,
+        _ => 0,
+    }
+}
 
 /// Answers an input of program `replay`.
 pub fn answer(input: &[u8], engine: &impl Engine, out: &mut impl Write) -> io::Result<()> {
@@ -149,23 +157,28 @@ pub(crate) struct Start {
 /// The start's words, read whole before it is judged.
 pub(crate) fn start(reader: &mut Reader) -> Option<Start> {
     let kind = reader.word().filter(|kind| (1..=4).contains(kind))?;
-    let has_further = kind > 2;
+    let most = most_further(kind);
     let n = reader.word().filter(|n| (1..=LARGEST_SIZE).contains(n))? as usize;
     let kernel = reader.word()?;
     let radius = reader.number()?;
-    let (kind, eta) = if kind % 2 == 1 {
-        let max_radius = reader.number()?;
-        (Kind::TrustRegion { max_radius }, reader.number()?)
-    } else {
-        let eta = reader.number()?;
-        let (factor, tol_grad) = (reader.number()?, reader.number()?);
-        (Kind::Sr1 { factor, tol_grad }, eta)
-    };
+    let many = if kind % 2 == 1 { 2 } else { 3 };
+    let own: Vec<f64> = (0..many).map(|_| reader.number()).collect::<Option<_>>()?;
     let (epsilon, limit) = (reader.number()?, reader.word()?);
-    let further = if has_further {
-        further(reader)?
-    } else {
-        Vec::new()
+    let further = further(reader, most)?;
+    let (kind, eta) = match own[..] {
+        [eta, factor, tol_grad] => {
+            let edition = further.get(2).copied().unwrap_or(PORTED_UPDATE);
+            let kind = Kind::Sr1 {
+                factor,
+                tol_grad,
+                edition,
+            };
+            (kind, eta)
+        }
+        _ => {
+            let max_radius = own[0];
+            (Kind::TrustRegion { max_radius }, own[1])
+        }
     };
     let settings = Settings {
         kind,
@@ -182,14 +195,17 @@ pub(crate) fn start(reader: &mut Reader) -> Option<Start> {
     let hessian = reader.matrix(n)?;
     Some(Start {
         session: Station::start(settings, cost, point, gradient, hessian),
-        tells_count: has_further,
+        tells_count: most > 0,
     })
 }
 
-/// How many further settings there are, and then these. Those that are missing have the values of
-/// kinds 1 and 2.
-fn further(reader: &mut Reader) -> Option<Vec<u64>> {
-    let many = reader.word().filter(|many| *many <= FURTHER)?;
+/// How many further settings there are, and then these; nothing of it in a kind that knows none. Those that are
+/// missing have the values of kinds 1 and 2.
+fn further(reader: &mut Reader, most: u64) -> Option<Vec<u64>> {
+    if most == 0 {
+        return Some(Vec::new());
+    }
+    let many = reader.word().filter(|many| *many <= most)?;
     (0..many).map(|_| reader.word()).collect()
 }
 
@@ -408,8 +424,18 @@ count 0
                 }
                 assert!(lines_of(&good).starts_with("start\nend ready\n"));
             }
-            for many in [3, 4, 1 << 32, (1 << 32) + 1, (1 << 32) + 2, u64::MAX] {
-                let input = head_with(kind, &[many, 1, 1, 1, 1]);
+            // The third one is the edition, which kind 3 has not.
+            let most = [
+                3,
+                4,
+                1 << 32,
+                (1 << 32) + 1,
+                (1 << 32) + 2,
+                (1 << 32) + 3,
+                u64::MAX,
+            ];
+            for many in &most[if kind == 3 { 0 } else { 1 }..] {
+                let input = head_with(kind, &[*many, 1, 1, 1, 1]);
                 assert_eq!(lines_of(&bytes(&input)), "bad input\n");
             }
             for allowance in [0, 1001, (1 << 32) + 1, u64::MAX] {
@@ -431,9 +457,49 @@ count 0
                 }
             }
             // What is bad comes before what is refused: kernel 4 is none.
-            let mut input = head_with(kind, &[3, 1, 1, 1]);
+            let mut input = head_with(kind, &[4, 1, 1, 1, 1]);
             input[2] = 4;
             assert_eq!(lines_of(&bytes(&input)), "bad input\n");
+        }
+    }
+
+    /// H = 1 at the start, s = −1 and G = 1 make z 0. Edition 1 is the one where none is named.
+    #[test]
+    fn two_editions() {
+        let refused =
+            "proposed 0\nstep bff0000000000000\ntrial bff0000000000000\nrefused 8\nend cost";
+        let taken = "proposed 0\nstep bff0000000000000\ntrial bff0000000000000\naccepted ";
+        for (further, said) in [
+            (&[0][..], refused),
+            (&[1, 7], refused),
+            (&[2, 7, 2], refused),
+            (&[3, 7, 2, 1], refused),
+            (&[3, 7, 1, 2], taken),
+        ] {
+            let mut input = head_with(4, further);
+            input.extend([1, 1, 2, 1, (-1.5f64).to_bits(), 1f64.to_bits()]);
+            let lines = lines_of(&bytes(&input));
+            assert!(lines.starts_with(&format!("start\n{said}")), "{lines}");
+            if said == taken {
+                assert!(lines.ends_with("hessian 3ff0000000000000\ncount 0\n"));
+            }
+        }
+    }
+
+    /// Words of kind 4 that end inside its third further setting, and editions that are none.
+    #[test]
+    fn bad_editions() {
+        let good = bytes(&head_with(4, &[3, 1000, 2, 2]));
+        for length in 0..good.len() {
+            assert_eq!(lines_of(&good[..length]), "bad input\n");
+        }
+        assert!(lines_of(&good).starts_with("start\nend ready\n"));
+        for kernel in 1..=3 {
+            for edition in [0, 3, (1 << 32) + 1, (1 << 32) + 2, u64::MAX] {
+                let mut input = head_with(4, &[3, 1, 1, edition]);
+                input[2] = kernel;
+                assert_eq!(lines_of(&bytes(&input)), "refused 2\n");
+            }
         }
     }
 

@@ -2,8 +2,8 @@
 
 use crate::input::words;
 use crate::random::Random;
-use crate::replay::{self, FURTHER};
-use crate::session::{Engine, Station, Tried, Verdict, TEXTBOOK};
+use crate::replay;
+use crate::session::{Engine, Kind, Secant, Station, Tried, Verdict, TEXTBOOK};
 use crate::sessions;
 use crate::step::{Call, Kernel};
 use crate::tally::Tally;
@@ -55,9 +55,10 @@ fn script(random: &mut Random, kind: Option<u64>) -> Vec<u64> {
         3 => script.extend([4, 0, 0, random.pick(&[3, 1 << 32, u64::MAX]), 0, 0]),
         4 => script.clear(),
         8 | 9 => {
-            // How many further settings there are: more than the kind knows.
+            // How many further settings there are: more than the kind knew when these were made. Kind 4 knows a third one by now, and
+            // reads the cost for it.
             let place = if kind == Some(3) { 8 } else { 9 };
-            let more = [FURTHER + 1, FURTHER + 2, 1 << 32 | 1, 1 << 32 | 2, u64::MAX];
+            let more = [3, 4, 1 << 32 | 1, 1 << 32 | 2, u64::MAX];
             replace(&mut script, place, random.pick(&more));
         }
         _ => {
@@ -116,6 +117,9 @@ pub fn answer(input: &[u8], engine: &impl Engine, out: &mut impl Write) -> io::R
     let engine = Counted {
         engine,
         judged: Default::default(),
+        updated: Default::default(),
+        skipped: Default::default(),
+        differ: Default::default(),
     };
     let mut left = input;
     while !left.is_empty() {
@@ -128,8 +132,15 @@ pub fn answer(input: &[u8], engine: &impl Engine, out: &mut impl Write) -> io::R
         out.write_all(&lines)?;
         left = rest;
     }
-    for (column, judged) in engine.judged.iter().enumerate() {
-        tally.add("judged", column, judged.get());
+    for (row, counts) in [
+        ("judged", &engine.judged),
+        ("updated", &engine.updated),
+        ("skipped", &engine.skipped),
+        ("editions differ", &engine.differ),
+    ] {
+        for (column, counted) in counts.iter().enumerate() {
+            tally.add(row, column, counted.get());
+        }
     }
     Ok(tally)
 }
@@ -179,7 +190,7 @@ pub fn difference(
 const KERNELS: [&str; 5] = ["Cauchy", "Dogleg", "Steihaug", "Textbook", "no kernel"];
 
 /// Its rows: the lines by their first words, and sums.
-const ROWS: [&str; 23] = [
+const ROWS: [&str; 26] = [
     "start",
     "proposed",
     "accepted",
@@ -202,6 +213,9 @@ const ROWS: [&str; 23] = [
     "end derivatives",
     "trials",
     "judged",
+    "updated",
+    "skipped",
+    "editions differ",
     "scripts",
 ];
 
@@ -213,7 +227,7 @@ fn count(tally: &mut Tally, script: &[u8], lines: &[u8]) {
         Some(4) => words.get(9..),
         _ => None,
     };
-    let textbook = matches!(further, Some([2, _, TEXTBOOK, ..]));
+    let textbook = matches!(further, Some([2 | 3, _, TEXTBOOK, ..]));
     let column = match words.get(2) {
         Some(2) if textbook => 3,
         Some(&kernel @ 1..=3) => kernel as usize - 1,
@@ -237,10 +251,39 @@ fn count(tally: &mut Tally, script: &[u8], lines: &[u8]) {
     tally.add("scripts", column, 1);
 }
 
-/// An engine whose verdicts are counted by kernel: trials that a caller made up do not reach it.
+/// An engine whose verdicts are counted by kernel: trials that a caller made up do not reach it. Of SR1's it is counted how often
+/// the session's test updates the Hessian and how often it skips that; and how often the test of the other edition would have come
+/// to another end, so that under edition 2 the Hessian is not argmin's own.
 struct Counted<'a, E> {
     engine: &'a E,
-    judged: [Cell<u64>; 4],
+    judged: Counts,
+    updated: Counts,
+    skipped: Counts,
+    differ: Counts,
+}
+
+/// By kernel.
+type Counts = [Cell<u64>; 4];
+
+fn raise(counts: &Counts, column: usize) {
+    counts[column].set(counts[column].get() + 1);
+}
+
+impl<E: Engine> Counted<'_, E> {
+    fn count_update(&self, column: usize, edition: u64, secant: &Secant) {
+        let updates = secant.updates(edition);
+        raise(
+            if updates {
+                &self.updated
+            } else {
+                &self.skipped
+            },
+            column,
+        );
+        if secant.updates_as_ported() != secant.updates_by_the_book() {
+            raise(&self.differ, column);
+        }
+    }
 }
 
 impl<E: Engine> Engine for Counted<'_, E> {
@@ -249,13 +292,18 @@ impl<E: Engine> Engine for Counted<'_, E> {
     }
 
     fn judge(&self, station: &Station, tried: &Tried) -> Verdict {
-        let judged = &self.judged[match station.call().kernel {
+        let column = match station.call().kernel {
             Kernel::Cauchy => 0,
             Kernel::Dogleg => 1,
             Kernel::Steihaug => 2,
             Kernel::Textbook => 3,
-        }];
-        judged.set(judged.get() + 1);
+        };
+        raise(&self.judged, column);
+        if let (Kind::Sr1 { edition, .. }, Some(secant)) =
+            (station.settings.kind, Secant::new(station, tried))
+        {
+            self.count_update(column, edition, &secant);
+        }
         self.engine.judge(station, tried)
     }
 }

@@ -1,7 +1,7 @@
-//! The two sessions as document 01 has them, with request Five's count of NaN answers in a row and
-//! request Six's choice of a dogleg: settings, phases, refusals, and what each call leaves. argmin has
-//! neither. How a proposal is worked out and a trial judged is an engine's part: by document 01's formulas
-//! here, by argmin's own code in argmin_sessions.rs.
+//! The two sessions as document 01 has them, with request Five's count of NaN answers in a row, request
+//! Six's choice of a dogleg and request Seven's editions of SR1's test: settings, phases, refusals, and what
+//! each call leaves. argmin has none of the three. How a proposal is worked out and a trial judged is an
+//! engine's part: by document 01's formulas here, by argmin's own code in argmin_sessions.rs.
 
 use crate::formulas;
 use crate::step::{self, Call, Kernel};
@@ -13,6 +13,10 @@ pub const LARGEST_ALLOWANCE: u64 = 1_000;
 /// The dogleg of a session: the ported one, or the one with the textbook's first leg (request Six).
 pub const PORTED: u64 = 1;
 pub const TEXTBOOK: u64 = 2;
+
+/// The edition of SR1's test: the ported one, or the one that the book has (request Seven).
+pub const PORTED_UPDATE: u64 = 1;
+pub const TEXTBOOK_UPDATE: u64 = 2;
 
 /// The settings of either kind, as given.
 #[derive(Clone, Copy, Debug)]
@@ -31,8 +35,15 @@ pub struct Settings {
 
 #[derive(Clone, Copy, Debug)]
 pub enum Kind {
-    TrustRegion { max_radius: f64 },
-    Sr1 { factor: f64, tol_grad: f64 },
+    TrustRegion {
+        max_radius: f64,
+    },
+    Sr1 {
+        factor: f64,
+        tol_grad: f64,
+        /// By which test the Hessian is updated or left.
+        edition: u64,
+    },
 }
 
 impl Settings {
@@ -54,8 +65,13 @@ impl Settings {
             Kind::TrustRegion { max_radius } => {
                 above_zero(self.radius) && above_zero(max_radius) && (0.0..0.25).contains(&self.eta)
             }
-            Kind::Sr1 { factor, tol_grad } => {
+            Kind::Sr1 {
+                factor,
+                tol_grad,
+                edition,
+            } => {
                 above_zero(self.radius.abs())
+                    && matches!(edition, PORTED_UPDATE | TEXTBOOK_UPDATE)
                     && self.eta > 0.0
                     && self.eta < 0.01
                     && factor > 0.0
@@ -326,8 +342,7 @@ impl Engine for Formulas {
     fn judge(&self, station: &Station, tried: &Tried) -> Verdict {
         match (station.settings.kind, tried.gradient) {
             (Kind::TrustRegion { max_radius }, _) => judge_trust_region(station, tried, max_radius),
-            (Kind::Sr1 { factor, .. }, Some(next)) => judge_sr1(station, tried, factor, next),
-            (Kind::Sr1 { .. }, None) => unreachable!("SR1's answer brings a gradient"),
+            (Kind::Sr1 { edition, .. }, _) => judge_sr1(station, tried, edition),
         }
     }
 }
@@ -356,8 +371,8 @@ fn judge_trust_region(station: &Station, tried: &Tried, max_radius: f64) -> Verd
     }
 }
 
-fn judge_sr1(station: &Station, tried: &Tried, factor: f64, next: &Vector) -> Verdict {
-    let (s, norm) = (&station.step, tried.norm);
+fn judge_sr1(station: &Station, tried: &Tried, edition: u64) -> Verdict {
+    let norm = tried.norm;
     let ap = (station.cost - tried.cost) / tried.promised;
     let radius = if ap > 0.75 {
         if norm <= 0.8 * station.radius {
@@ -370,13 +385,9 @@ fn judge_sr1(station: &Station, tried: &Tried, factor: f64, next: &Vector) -> Ve
     } else {
         0.5 * station.radius
     };
-    let z = minus(&minus(next, &station.gradient), &station.hessian.times(s));
-    let q = s.dot(&z);
-    let hessian = if q.abs() >= (factor * norm) * q.abs() {
-        let n = station.size();
-        let entries = station.hessian.entries().iter().enumerate();
-        let entries = entries.map(|(k, h)| h + (z.0[k / n] * z.0[k % n]) * (1.0 / q));
-        Matrix::new(n, entries.collect())
+    let secant = Secant::new(station, tried).expect("SR1's answer brings a gradient");
+    let hessian = if secant.updates(edition) {
+        secant.updated(&station.hessian)
     } else {
         station.hessian.clone()
     };
@@ -386,6 +397,61 @@ fn judge_sr1(station: &Station, tried: &Tried, factor: f64, next: &Vector) -> Ve
         radius,
         hessian: Some(hessian),
         point: None,
+    }
+}
+
+/// What an answer of SR1 says about the Hessian, and what the tests of both editions look at.
+#[derive(Clone, Debug)]
+pub struct Secant {
+    /// (G − g) − H·s.
+    pub z: Vector,
+    /// s·z. Never −0: a dot begins at +0.
+    pub q: f64,
+    pub factor: f64,
+    /// The step's norm, as the phase has it.
+    pub norm: f64,
+}
+
+impl Secant {
+    /// Nothing where the session is no SR1TrustRegion.
+    pub fn new(station: &Station, tried: &Tried) -> Option<Secant> {
+        let (Kind::Sr1 { factor, .. }, Some(next)) = (station.settings.kind, tried.gradient) else {
+            return None;
+        };
+        let (g, s) = (&station.gradient, &station.step);
+        let z = minus(&minus(next, g), &station.hessian.times(s));
+        Some(Secant {
+            q: s.dot(&z),
+            z,
+            factor,
+            norm: tried.norm,
+        })
+    }
+
+    pub fn updates(&self, edition: u64) -> bool {
+        match edition {
+            PORTED_UPDATE => self.updates_as_ported(),
+            TEXTBOOK_UPDATE => self.updates_by_the_book(),
+            _ => unreachable!("the edition was looked at by the start"),
+        }
+    }
+
+    /// Edition 1, argmin's own: the magnitude of q stands on both sides.
+    pub fn updates_as_ported(&self) -> bool {
+        self.q.abs() >= (self.factor * self.norm) * self.q.abs()
+    }
+
+    /// Edition 2, by request Seven's words. A comparison with a NaN does not hold, so that it skips.
+    pub fn updates_by_the_book(&self) -> bool {
+        self.q.abs() >= (self.factor * self.norm) * self.z.norm() && self.q != 0.0
+    }
+
+    /// The same in both editions.
+    pub fn updated(&self, hessian: &Matrix) -> Matrix {
+        let (z, n) = (&self.z.0, hessian.size());
+        let entries = hessian.entries().iter().enumerate();
+        let entries = entries.map(|(k, h)| h + (z[k / n] * z[k % n]) * (1.0 / self.q));
+        Matrix::new(n, entries.collect())
     }
 }
 
@@ -420,6 +486,7 @@ mod tests {
         kind: Kind::Sr1 {
             factor: 1e-8,
             tol_grad: 1e-3,
+            edition: PORTED_UPDATE,
         },
         eta: 0.5 * 1e-3,
         ..TRUST_REGION
@@ -469,18 +536,60 @@ mod tests {
         assert_eq!((station.radius, station.phase), (1.0, Phase::Ready));
     }
 
-    /// Document 01's cases 14 and 15.
+    /// The same settings with this edition, and with this factor.
+    fn sr1_by(edition: u64, factor: f64) -> Settings {
+        Settings {
+            kind: Kind::Sr1 {
+                factor,
+                tol_grad: 1e-3,
+                edition,
+            },
+            ..SR1
+        }
+    }
+
+    /// Document 01's cases 14 and 15 under both editions.
     #[test]
     fn marked_updates() {
-        let updated = |difference: [f64; 2]| {
-            let mut station = awaiting(SR1, 10.0, 6.0, 1.0);
+        let updated = |edition: u64, difference: [f64; 2]| {
+            let mut station = awaiting(sr1_by(edition, 1e-8), 10.0, 6.0, 1.0);
             station.step = Vector(vec![1.0, 0.0]);
             let next = Vector(vec![3.0 + difference[0], 4.0 + difference[1]]);
             let verdict = station.answer(2, 9.0, Some(&next), &Formulas);
-            verdict.map(|_| station.hessian.entries().to_vec())
+            verdict.map(|verdict| {
+                assert!(verdict.accepted && station.gradient == next);
+                station.hessian.entries().to_vec()
+            })
         };
-        assert_eq!(updated([3.0, 0.0]), Ok(vec![3.0, 0.0, 0.0, 1.0]));
-        assert_eq!(updated([1.0, 1.0]), Err(8));
+        for edition in [PORTED_UPDATE, TEXTBOOK_UPDATE] {
+            assert_eq!(updated(edition, [3.0, 0.0]), Ok(vec![3.0, 0.0, 0.0, 1.0]));
+        }
+        assert_eq!(updated(PORTED_UPDATE, [1.0, 1.0]), Err(8));
+        let left = Ok(vec![1.0, 0.0, 0.0, 1.0]);
+        assert_eq!(updated(TEXTBOOK_UPDATE, [1.0, 1.0]), left);
+        // z is nothing at all.
+        assert_eq!(updated(PORTED_UPDATE, [1.0, 0.0]), Err(8));
+        assert_eq!(updated(TEXTBOOK_UPDATE, [1.0, 0.0]), left);
+    }
+
+    /// z = (3, 4), so that q is 3 and the norm of z 5: with the factor 0.6 both sides are 3 where the phase has a norm of 1.
+    #[test]
+    fn the_books_test_at_its_border() {
+        let updates = |norm: f64, step: f64| {
+            let mut station = awaiting(sr1_by(TEXTBOOK_UPDATE, 0.6), 10.0, 6.0, norm);
+            station.step = Vector(vec![step, 0.0]);
+            let next = Vector(vec![3.0 + 3.0 + step, 4.0 + 4.0]);
+            let verdict = station.answer(2, 9.0, Some(&next), &Formulas);
+            let hessian = verdict.unwrap().hessian.unwrap();
+            hessian.entries() != [1.0, 0.0, 0.0, 1.0]
+        };
+        assert!(updates(1.0, 1.0) && !updates(1f64.next_up(), 1.0));
+        assert!(updates(1f64.next_down(), 1.0));
+        // Both have their sign taken off, the norm of the phase has not.
+        assert!(updates(1.0, -1.0) && updates(-1.0, 1.0) && updates(f64::NEG_INFINITY, 1.0));
+        assert!(!updates(f64::INFINITY, 1.0) && !updates(f64::NAN, 1.0));
+        // q is 0, whatever the other side is.
+        assert!(!updates(-1.0, 0.0) && !updates(0.0, 0.0));
     }
 
     #[test]
@@ -653,6 +762,21 @@ mod tests {
                 assert_eq!(start(settings, cost).err(), refusal);
             }
             assert_eq!(start(settings, 1.0).unwrap().count, 0);
+        }
+        for (edition, refusal) in [
+            (PORTED_UPDATE, None),
+            (TEXTBOOK_UPDATE, None),
+            (0, Some(2)),
+            (3, Some(2)),
+            ((1 << 32) + 1, Some(2)),
+            ((1 << 32) + 2, Some(2)),
+            (u64::MAX, Some(2)),
+        ] {
+            assert_eq!(start(sr1_by(edition, 1e-8), 1.0).err(), refusal);
+            let without_cost = start(sr1_by(edition, 1e-8), f64::NAN);
+            assert_eq!(without_cost.err(), refusal.or(Some(4)));
+        }
+        for settings in [TRUST_REGION, SR1] {
             for kernel in 1..=3 {
                 for (dogleg, refusal) in [
                     (PORTED, None),

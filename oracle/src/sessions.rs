@@ -6,7 +6,7 @@ use crate::input::words;
 use crate::random::{made_bits, with_exponent, Random, NANS};
 use crate::replay::{self, Call};
 use crate::session::{
-    Formulas, Kind, Phase, Settings, Station, LARGEST_ALLOWANCE, PORTED, TEXTBOOK,
+    Formulas, Kind, Phase, Settings, Station, LARGEST_ALLOWANCE, PORTED, PORTED_UPDATE, TEXTBOOK,
 };
 use crate::vector::{Matrix, Vector};
 
@@ -114,7 +114,9 @@ impl Maker {
         }
         let (mut kind, own) = match settings.kind {
             Kind::TrustRegion { max_radius } => (1, vec![max_radius, settings.eta]),
-            Kind::Sr1 { factor, tol_grad } => (2, vec![settings.eta, factor, tol_grad]),
+            Kind::Sr1 {
+                factor, tol_grad, ..
+            } => (2, vec![settings.eta, factor, tol_grad]),
         };
         if self.hidden > 0 {
             kind += 2;
@@ -393,7 +395,11 @@ fn sound_settings(random: &mut Random, n: usize) -> Settings {
         let factor = random.pick(&[1e-8, 1e-8, 0.5, 1f64.next_down(), 5e-324]);
         let tol_grad = random.pick(&[1e-3, 1e-3, 0.0, -0.0, 1.0, 5.0]);
         Settings {
-            kind: Kind::Sr1 { factor, tol_grad },
+            kind: Kind::Sr1 {
+                factor,
+                tol_grad,
+                edition: PORTED_UPDATE,
+            },
             kernel,
             radius: radius * random.pick(&[1.0, 1.0, -1.0]),
             eta: random.pick(&[0.0005, 0.0005, 0.009, 5e-324, 0.01f64.next_down()]),
@@ -506,13 +512,19 @@ fn spoil(random: &mut Random, settings: &mut Settings) {
         _ => {
             settings.kind = match settings.kind {
                 Kind::TrustRegion { .. } => Kind::TrustRegion { max_radius: wrong },
-                Kind::Sr1 { factor, .. } if random.once_in(2) => Kind::Sr1 {
+                Kind::Sr1 {
+                    factor, edition, ..
+                } if random.once_in(2) => Kind::Sr1 {
                     factor,
                     tol_grad: wrong,
+                    edition,
                 },
-                Kind::Sr1 { tol_grad, .. } => Kind::Sr1 {
+                Kind::Sr1 {
+                    tol_grad, edition, ..
+                } => Kind::Sr1 {
                     factor: wrong,
                     tol_grad,
+                    edition,
                 },
             }
         }

@@ -1,18 +1,27 @@
 //! Inputs of program `replays`: fits of smooth functions, trial by trial, each some dozen trials long. The costs and the
 //! derivatives are those of the trial points, and some trials are answered with NaN. In kinds 3 and 4 mostly one to five of these are
 //! allowed in a row; markers stay hidden for a while, and after a refusal by 9 the caller shows them and puts the count to 0. Their
-//! dogleg is the ported one or the textbook's.
+//! dogleg is the ported one or the textbook's. Fits of kind 4 may name their edition; then one in four is of a function whose Hessian is
+//! right from the start, in numbers that are mostly exact.
 
+use crate::cases::whole;
 use crate::random::{made_bits, with_exponent, Random};
-use crate::replay::{self, Call, FURTHER};
+use crate::replay::{self, Call};
 use crate::scripts::many;
-use crate::session::{Formulas, Kind, Phase, Settings, Station, LARGEST_ALLOWANCE, PORTED};
+use crate::session::{
+    Formulas, Kind, Phase, Settings, Station, LARGEST_ALLOWANCE, PORTED, PORTED_UPDATE,
+};
 use crate::sessions::some_dogleg;
 use crate::vector::{Matrix, Vector};
 
 /// `count` scripts of a kind of session.
 pub fn input(count: u64, seed: u64, kind: u64) -> Vec<u8> {
-    many(count, seed, |random| script(random, kind))
+    many(count, seed, |random| script(random, kind, None))
+}
+
+/// `count` scripts of kind 4 that name this edition.
+pub fn of_edition(count: u64, seed: u64, edition: u64) -> Vec<u8> {
+    many(count, seed, |random| script(random, 4, Some(edition)))
 }
 
 /// Half the sum of the squares of a_i·(x_i − c_i) and of b·(x_(i+1) − x_i²): a curved valley.
@@ -36,6 +45,16 @@ impl Valley {
             c: (0..n).map(|_| number(random, -2, 2)).collect(),
             b: number(random, -2, 3),
             whole: random.once_in(2),
+        }
+    }
+
+    /// A bowl: its Hessian is the same everywhere.
+    fn flat(random: &mut Random, n: usize) -> Valley {
+        Valley {
+            a: (0..n).map(|_| random.pick(&[0.5, 1.0, 2.0])).collect(),
+            c: (0..n).map(|_| whole(random, 4)).collect(),
+            b: 0.0,
+            whole: true,
         }
     }
 
@@ -104,6 +123,7 @@ fn settings(random: &mut Random, kind: u64) -> Settings {
             Kind::Sr1 {
                 factor: 1e-8,
                 tol_grad: random.pick(&[1e-3, 1e-9]),
+                edition: PORTED_UPDATE,
             }
         } else {
             Kind::TrustRegion {
@@ -128,8 +148,8 @@ fn settings(random: &mut Random, kind: u64) -> Settings {
 /// allowance alone, or both.
 fn further(random: &mut Random, settings: &mut Settings) -> Vec<u64> {
     if random.once_in(100) {
-        // More than there are.
-        return vec![FURTHER + random.pick(&[1, 2, 1 << 32]), 1, 1, 1];
+        // More than there were when these were made. In kind 4 three are good by now; nothing follows the start.
+        return vec![2 + random.pick(&[1, 2, 1 << 32]), 1, 1, 1];
     }
     if random.once_in(20) {
         return vec![0];
@@ -144,6 +164,30 @@ fn further(random: &mut Random, settings: &mut Settings) -> Vec<u64> {
         settings.kernel = 2;
     }
     vec![2, settings.allowance, settings.dogleg]
+}
+
+/// The same where the edition is named: all three, now and then an edition that is none, or one setting more than there are.
+fn named(random: &mut Random, settings: &mut Settings, edition: u64) -> Vec<u64> {
+    settings.allowance = random.between(1, 5) as u64;
+    settings.dogleg = some_dogleg(random, 50);
+    if random.once_in(3) {
+        settings.kernel = 2;
+    }
+    let unknown = random.pick(&[0, 3, (1 << 32) + 1, (1 << 32) + 2, u64::MAX]);
+    let edition = if random.once_in(50) { unknown } else { edition };
+    let more = random.once_in(100);
+    settings.kind = Kind::Sr1 {
+        // By the greater ones more is skipped.
+        factor: random.pick(&[1e-8, 1e-8, 1e-8, 0.1, 0.5, 0.9]),
+        tol_grad: random.pick(&[1e-3, 1e-9]),
+        edition,
+    };
+    let mut words = vec![3, settings.allowance, settings.dogleg, edition];
+    if more {
+        words[0] = 4;
+        words.push(1);
+    }
+    words
 }
 
 /// Whether trials are hidden.
@@ -174,16 +218,25 @@ impl Markers {
     }
 }
 
-fn script(random: &mut Random, kind: u64) -> Vec<u64> {
+fn script(random: &mut Random, kind: u64, edition: Option<u64>) -> Vec<u64> {
     let n = random.between(1, 4) as usize;
-    let valley = Valley::new(random, n);
-    let mut settings = settings(random, kind);
-    let further = if is_hidden(kind) {
-        further(random, &mut settings)
+    let is_flat = edition.is_some() && random.once_in(4);
+    let valley = if is_flat {
+        Valley::flat(random, n)
     } else {
-        Vec::new()
+        Valley::new(random, n)
     };
-    let point: Vec<f64> = (0..n).map(|_| number(random, -2, 2)).collect();
+    let mut settings = settings(random, kind);
+    let further = match edition {
+        Some(edition) => named(random, &mut settings, edition),
+        None if is_hidden(kind) => further(random, &mut settings),
+        None => Vec::new(),
+    };
+    let point: Vec<f64> = if is_flat {
+        (0..n).map(|_| whole(random, 4)).collect()
+    } else {
+        (0..n).map(|_| number(random, -2, 2)).collect()
+    };
     let (cost, gradient, hessian) = (
         valley.cost(&point),
         valley.gradient(&point),
@@ -192,12 +245,15 @@ fn script(random: &mut Random, kind: u64) -> Vec<u64> {
     let mut script = vec![kind, n as u64, settings.kernel, settings.radius.to_bits()];
     let own = match settings.kind {
         Kind::TrustRegion { max_radius } => vec![max_radius, settings.eta],
-        Kind::Sr1 { factor, tol_grad } => vec![settings.eta, factor, tol_grad],
+        Kind::Sr1 {
+            factor, tol_grad, ..
+        } => vec![settings.eta, factor, tol_grad],
     };
     let bits = |list: &[f64]| -> Vec<u64> { list.iter().map(|&x| made_bits(x)).collect() };
     script.extend(bits(&own));
     script.extend([settings.epsilon.to_bits(), settings.limit]);
-    let is_bad = further.first().is_some_and(|many| *many > FURTHER);
+    let most = if edition.is_some() { 3 } else { 2 };
+    let is_bad = further.first().is_some_and(|many| *many > most);
     script.extend(further);
     script.push(made_bits(cost));
     script.extend(bits(&point));
@@ -273,6 +329,31 @@ mod tests {
             assert_eq!(all("start") + not_started[0] + not_started[1], 300);
             assert!(not_started.iter().all(|counted| (1..20).contains(counted)));
         }
+    }
+
+    /// Those that name an edition update and skip; the bowls are refused by 8 under edition 1 and go on under edition 2.
+    #[test]
+    fn fits_of_either_edition() {
+        let [ported, book] = [1, 2].map(|edition| {
+            let mut out = Vec::new();
+            let input = of_edition(300, 1, edition);
+            let tally = scripts::answer(&input, &Formulas, &mut out).unwrap();
+            [
+                "start",
+                "refused 8",
+                "updated",
+                "skipped",
+                "editions differ",
+                "done",
+            ]
+            .map(|row| (0..4).map(|kernel| tally.get(row, kernel)).sum::<u64>())
+        });
+        for counted in [ported, book] {
+            assert!((280..300).contains(&counted[0]), "{counted:?}");
+            assert!(counted[2] > 1000 && counted[4] > 50, "{counted:?}");
+        }
+        assert!(ported[1] > 30 && book[1] < ported[1], "{ported:?} {book:?}");
+        assert!(book[3] > 300 && book[5] > ported[5], "{ported:?} {book:?}");
     }
 
     #[test]

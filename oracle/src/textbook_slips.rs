@@ -60,7 +60,7 @@ slips! {
     ChoiceIgnored: "always the ported dogleg",
     ChoiceTurned: "1 and 2 in each other's place",
     ChoiceDefault: "the second dogleg where none is named",
-    FurtherThree: "a third further setting passed over",
+    FurtherThree: "a third further setting of kind 3 passed over",
 }
 
 use Slip::*;
@@ -139,7 +139,8 @@ fn read(slip: Slip, script: &[u8]) -> Vec<u8> {
     };
     let kernel = list.get(2).copied();
     let many = list.get(place).copied();
-    if slip == FurtherThree && many == Some(3) && list.len() > place + 3 {
+    // In kind 4 it is the edition (edition_slips.rs).
+    if slip == FurtherThree && place == 8 && many == Some(3) && list.len() > place + 3 {
         list[place] = 2;
         list.remove(place + 3);
     }
@@ -153,7 +154,7 @@ fn read(slip: Slip, script: &[u8]) -> Vec<u8> {
             list.splice(behind..behind, missing[here..].iter().copied());
         }
     }
-    if let (Some(2), Some(choice)) = (many, list.get_mut(place + 2)) {
+    if let (Some(2 | 3), Some(choice)) = (many, list.get_mut(place + 2)) {
         *choice = match (slip, *choice) {
             (ChoiceThree, 3) | (ChoiceZero, 0) => PORTED,
             (ChoiceThreeNew, 3) => TEXTBOOK,
