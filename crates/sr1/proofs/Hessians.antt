@@ -12,11 +12,12 @@ use lib.Ieee.{Float}
 use borrow.Author.Tests.{ne-eqb}
 use Rattle.float.specs.Numbers.{_⊕_, _⊖_, _⊗_, _⊘_, finite}
 use Rattle.float.specs.Constants.{one}
+use Rattle.vectors.specs.Vector as Vector
 use Rattle.vectors.specs.Vector.{at, tab, flat, dot, times-at, minus, all-finite}
 use Rattle.vectors.specs.Slots.{slot, Puts}
 use Rattle.vectors.proofs.Vectors.{at-tab, tab-same, at-times}
 use Rattle.kernels.proofs.Rows.{Laying, laying-none, laying-more₀, laid-flat}
-use Rattle.sr1.specs.Session.{residual, updates, gained-row, gained, updated-by, updated}
+use Rattle.sr1.specs.Session.{residual, ported-rule, book-rule, updates, gained-row, gained, updated-by, updated}
 use Rattle.sr1.specs.Calls.{Updates}
 use Rattle.sr1.specs.declared.settings.Settings.{Settings}
 
@@ -115,6 +116,18 @@ gaining-more {n} {old} {z} {share} {w} {i} p h w′ a l = record {
 pub gaining-done : {n : ℕ} {old z : List Float} {share : Float} {w : List Float} {i : ℕ} → Gaining n old z share w i → n ≤ i → length old ≡ n * n → w ≡ gained n old z share
 unfolding gained
 gaining-done {n} {old} {z} {share} {w} {i} p h e = let all : i ≡ n = omega arith in laid-flat (rw all at (p .laid)) e
+
+-- ---- the test, by the edition; nothing else looks inside it
+
+module _ (t : Settings) (norm : Float) (z : List Float) (q : Float) where
+  pub by-first : t .edition ≡ 1 → updates t norm z q ≡ ported-rule (t .factor) norm q
+  unfolding updates
+  by-first e = rw e
+
+  -- x is the norm of z
+  pub by-other : (t .edition ≡ 1 → ⊥) → (x : Float) → x ≡ Vector.norm z → updates t norm z q ≡ book-rule (t .factor) norm x q
+  unfolding updates
+  by-other h x e = rw (ne-eqb (t .edition) 1 h, e)
 
 -- ---- the whole update
 

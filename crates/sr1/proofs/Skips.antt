@@ -3,6 +3,7 @@ use mathlib.Core.Path.{_≡_, refl, sym, ap, _∙_}
 use mathlib.Core.Bool.{Bool, true, false, not, cond, _&&_, true≢false}
 use mathlib.Core.List.{List, [], _∷_}
 use Prim.Native.Nat.{ℕ}
+use native.Mathlib.Omega.{arith}
 use lib.Dec.{eqb}
 use lib.Ieee.{Float, le, eq, ne}
 use lib.Ieee.Bits.{is-true}
@@ -17,10 +18,10 @@ use Rattle.vectors.proofs.Sizes.{each-holds}
 use Rattle.kernels.proofs.Kernels.{first-passed}
 use Rattle.offer.specs.State.{Promise, promised}
 use Rattle.offer.proofs.Checks.{None, unless-same, unless-elim, then-elim, not-not, clash}
-use Rattle.sr1.specs.Session.{Judgement, updates, book-rule, updated-by, updated, settled, answer-entries, answer-checks, verdict, judge, judgement-checks, judgement}
+use Rattle.sr1.specs.Session.{Judgement, book-rule, updated-by, updated, settled, answer-entries, answer-checks, verdict, judge, judgement-checks, judgement}
 use Rattle.sr1.specs.Skips.{q, tested, Skips, ratio, radius-after, left-out, skipping, Skip-rule}
 use Rattle.sr1.specs.declared.session.Session.{Session}
-use Rattle.sr1.proofs.Hessians.{and-false}
+use Rattle.sr1.proofs.Hessians.{and-false, by-other}
 use Rattle.sr1.proofs.Zeros.{first-refused}
 
 -- what follows an answer is one where it is for all that may be given
@@ -107,8 +108,7 @@ module _ (s : Session) (n : ℕ) (F : Float) (new-gradient point step trial grad
 
   module _ (second : s .settings .edition ≡ 2) (zero : eq (q n new-gradient gradient hessian step) nought ≡ true) where
     zero-skips : fails
-    unfolding updates
-    zero-skips p is = rw second (zero-stays (s .settings .factor) (p .norm) _ _ zero)
+    zero-skips p is = by-other (s .settings) (p .norm) _ _ (λ first. omega (arith, second, first)) _ refl ∙ zero-stays (s .settings .factor) (p .norm) _ _ zero
 
     -- Refused by 8 it is for the next radius, and never for q.
     never-for-q : (p : Promise) → promised (s .state .phase) ≡ given p → judgement s n F new-gradient point step trial gradient hessian scratch ≡ refused Range → finite (radius-after s F p) ≡ false

@@ -22,11 +22,11 @@ use Rattle.vectors.specs.declared.refusal.Refusal.the-variants.{Range}
 use Rattle.vectors.specs.declared.refusal.Verdict.the-variants.{Passed}
 use Rattle.kernels.proofs.Kernels.{unless-passed}
 use Rattle.offer.specs.State.{Promise, promised}
-use Rattle.sr1.specs.Session.{residual, ported-rule, updates, gained-at, gained-row, gained, updated-by, updated, judge, judgement-checks, judgement}
+use Rattle.sr1.specs.Session.{residual, ported-rule, gained-at, gained-row, gained, updated-by, updated, judge, judgement-checks, judgement}
 use Rattle.sr1.specs.Skips.{q, tested, radius-after}
 use Rattle.sr1.specs.declared.session.Session.{Session}
 use Rattle.sr1.proofs.Ends.{answered, answer-lent}
-use Rattle.sr1.proofs.Hessians.{and-false, row-bad, rows-bad}
+use Rattle.sr1.proofs.Hessians.{and-false, by-first, row-bad, rows-bad}
 
 -- ---- zeros
 
@@ -131,5 +131,4 @@ module _ (s : Session) (n : ℕ) (F : Float) (new-gradient point step trial grad
 
     -- Edition 1 does.
     pub first-refused : s .settings .edition ≡ 1 → finite (s .settings .factor ⊗ p .norm) ≡ true → judgement s n F new-gradient point step trial gradient hessian scratch ≡ refused Range
-    unfolding updates
-    first-refused e h = zero-refused (rw e (lets-through (s .settings .factor) (p .norm) (q n new-gradient gradient hessian step) h zero-q))
+    first-refused e h = zero-refused (by-first (s .settings) (p .norm) _ _ e ∙ lets-through (s .settings .factor) (p .norm) (q n new-gradient gradient hessian step) h zero-q)
