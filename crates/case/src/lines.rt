@@ -4,7 +4,8 @@ use crate::Said;
 use stream::Output;
 ghost use mathlib.Core.Path.{_≡_};
 ghost use lib.ListN.{take};
-ghost use Rattle.case.specs.Lines.{Puts, number-lines, step-line, refused-line};
+ghost use Rattle.stream.specs.Pieces.{Puts};
+ghost use Rattle.case.specs.Lines.{number-lines, step-line};
 ghost use Rattle.case.specs.Lines as Lines;
 
 // Puts the lines of an answer on a page; the step stands at the front of `step`.
@@ -16,7 +17,7 @@ pub fn put(page: &mut [u8], output: Output, said: Said, step: &[f64]) -> Output
             let head = step_line(page, output, n as u64, passes);
             numbers(page, head, first(step, n))
         }
-        Said::Refused(r) => refused_line(page, output, vectors::refusal::number(r)),
+        Said::Refused(r) => stream::put_refused(page, output, vectors::refusal::number(r)),
     }
 }
 
@@ -27,14 +28,6 @@ fn step_line(page: &mut [u8], output: Output, n: u64, passes: u64) -> Output
     let size = stream::put_whole(page, said, n);
     let blank = stream::put_blank(page, size);
     let put = stream::put_whole(page, blank, passes);
-    stream::put_line_end(page, put)
-}
-
-fn refused_line(page: &mut [u8], output: Output, k: u64) -> Output
-    ensures { λ r. ⌜ Puts (refused-line k) (now (page .entry)) (output .at) (now (page .exit)) (r .at) ⌝ }
-{
-    let said = stream::put_text(page, output, b"refused ");
-    let put = stream::put_whole(page, said, k);
     stream::put_line_end(page, put)
 }
 

@@ -3,8 +3,9 @@ use mathlib.Core.Path.{_≡_, refl}
 use mathlib.Core.List.{List, [], _∷_, map}
 use Prim.Native.Nat.{ℕ}
 use Prim.Native.String.{String}
+use Rattle.words.specs.Ascii.{ascii}
 use Rattle.shortest.specs.Digits.{raises, lowers, ending, shortest, find, between, quarters, digits-of}
-use Rattle.decimal.specs.Text.{ascii, digits, sign, behind, pointed, width, exponent, scientific, positional, laid, unsigned, text}
+use Rattle.decimal.specs.Text.{digits, sign, behind, pointed, width, exponent, scientific, positional, laid, unsigned, text}
 
 pub record Case : Type 0 where
   pub bits : ℕ

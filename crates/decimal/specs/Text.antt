@@ -1,20 +1,13 @@
 -- The decimal text of an f64, told by its pattern: the shortest digits that read back as it, positional from 1e-5 up to below 1e16 and scientific
 -- otherwise. Definitions only.
 use Prim.Native.Nat.{ℕ, zero, suc, _+_, _-_, _/_, _%_, _^_}
-use Prim.Native.Char.{code}
-use Prim.Native.String.{String}
-use Prim.Native.String as string
 use mathlib.Core.Bool.{Bool, true, false, cond}
 use mathlib.Core.List.{List, [], _∷_, _++_}
 use lib.Dec.{leb, ltb, eqb}
 use lib.ListN.{length}
 use Rattle.words.specs.Words.{fits-at}
+use Rattle.words.specs.Ascii.{ascii}
 use Rattle.shortest.specs.Digits.{digits-of}
-
--- the bytes of a text in ASCII
-abbrev pub ascii : String → List ℕ
-ascii string.[] = []
-ascii (string._∷_ c s) = code c ∷ ascii s
 
 -- ---- the parts of a text
 

@@ -3,8 +3,9 @@ use crate::lists::Got;
 use stream::Input;
 use stream::Output;
 use vectors::refusal::Outcome;
-use vectors::refusal::Refusal;
 use vectors::vector::Number;
+ghost use Rattle.stream.specs.Pieces.{Puts};
+ghost use Rattle.leaves.specs.Lines.{answer-line, outcome-line};
 
 // Where the next call is read and its line written, or that there is none.
 pub(crate) struct Turn {
@@ -21,10 +22,15 @@ pub fn answer(page: &mut [u8], output: Output, next: Got, found: Number) -> Turn
     go_on(next, answered(page, output, found))
 }
 
-fn answered(page: &mut [u8], output: Output, found: Number) -> Output {
+fn answered(page: &mut [u8], output: Output, found: Number) -> Output
+    ensures { λ r. ⌜ Puts (answer-line found) (now (page .entry)) (output .at) (now (page .exit)) (r .at) ⌝ }
+{
     match found {
-        Number::Is(x) => number(page, output, x),
-        Number::Refused(r) => refused(page, output, r),
+        Number::Is(x) => {
+            let said = stream::put_named(page, output, b"is ", x);
+            stream::put_line_end(page, said)
+        }
+        Number::Refused(r) => stream::put_refused(page, output, vectors::refusal::number(r)),
     }
 }
 
@@ -36,10 +42,15 @@ pub fn outcome(page: &mut [u8], output: Output, next: Got, found: Outcome, out: 
     go_on(next, written(page, output, found, out))
 }
 
-fn written(page: &mut [u8], output: Output, found: Outcome, out: &[f64]) -> Output {
+fn written(page: &mut [u8], output: Output, found: Outcome, out: &[f64]) -> Output
+    ensures { λ r. ⌜ Puts (outcome-line found (now (out .entry))) (now (page .entry)) (output .at) (now (page .exit)) (r .at) ⌝ }
+{
     match found {
-        Outcome::Written => numbers(page, output, out),
-        Outcome::Refused(r) => refused(page, output, r),
+        Outcome::Written => {
+            let said = stream::put_list(page, output, b"is", out);
+            stream::put_line_end(page, said)
+        }
+        Outcome::Refused(r) => stream::put_refused(page, output, vectors::refusal::number(r)),
     }
 }
 
@@ -50,31 +61,6 @@ fn go_on(next: Got, output: Output) -> Turn {
         output,
         over: false,
     }
-}
-
-fn number(page: &mut [u8], output: Output, x: f64) -> Output {
-    let said = stream::put_text(page, output, b"is ");
-    let put = stream::put_number(page, said, x);
-    stream::put_line_end(page, put)
-}
-
-// `is` and the numbers of a list, which may be none.
-fn numbers(page: &mut [u8], output: Output, v: &[f64]) -> Output {
-    let mut put = stream::put_text(page, output, b"is");
-    let mut i = 0;
-    while i < v.len() {
-        let blank = stream::put_blank(page, put);
-        put = stream::put_number(page, blank, v[i]);
-        i += 1;
-    }
-    stream::put_line_end(page, put)
-}
-
-// `refused` and the refusal's number.
-fn refused(page: &mut [u8], output: Output, r: Refusal) -> Output {
-    let said = stream::put_text(page, output, b"refused ");
-    let put = stream::put_whole(page, said, vectors::refusal::number(r));
-    stream::put_line_end(page, put)
 }
 
 pub fn bad(page: &mut [u8], output: Output) -> Turn {

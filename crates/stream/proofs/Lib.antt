@@ -1,3 +1,4 @@
 pub mod Filling
 pub mod Found
 pub mod Paper
+pub mod Pieces

@@ -2,6 +2,7 @@
 // length, through a room that the caller lends; lines leave through a lent page, so that a million of
 // them take few calls of the system. No contract can say what is read or written: they say all else.
 mod input;
+mod lines;
 mod output;
 
 pub use input::Filled;
@@ -10,6 +11,9 @@ pub use input::Word;
 pub use input::next_word;
 pub use input::numbers;
 pub use input::start;
+pub use lines::put_list;
+pub use lines::put_named;
+pub use lines::put_refused;
 pub use output::Output;
 pub use output::flush;
 pub use output::put_blank;

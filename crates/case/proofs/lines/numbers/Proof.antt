@@ -6,7 +6,8 @@ use borrow.Author.Needs.{needs}
 use lib.ListN.{length, take}
 use lib.Seq.{take-all}
 use denote.Ref.{now}
-use Rattle.case.specs.Lines.{Puts, none, number-lines}
+use Rattle.stream.specs.Pieces.{Puts, none}
+use Rattle.case.specs.Lines.{number-lines}
 use Rattle.case.proofs.Pieces.{numbers-more}
 use Rattle.case.proofs.lines.numbers.Statement.{statement}
 use Rattle.case.proofs.lines.numbers.Tie as tie

@@ -12,7 +12,7 @@ returns c =
 returns-2 : tie.Need-returns-2
 returns-2 c =
     let put = c .before .before in
-    refused-lines _ _ _ _ (c .before .before .before .before .before .before .said2 .given .1) (put .before .number .ensures) (put .refused-line .ensures)
+    refused-lines _ _ _ _ (c .before .before .before .before .before .before .said2 .given .1) (put .before .number .ensures) (put .put-refused .ensures)
 
 pub put-spec : {M : Type 1} → statement M
 put-spec =
