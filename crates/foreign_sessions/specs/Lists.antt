@@ -10,15 +10,12 @@ use lib.Ieee.{Float}
 use Rattle.float.specs.Constants.{nought}
 use Rattle.vectors.specs.Refusal.{number, Answer, refused, given}
 use Rattle.vectors.specs.Vector.{at}
-use Rattle.kernels.specs.Choice.{choice-of, choosing}
-use Rattle.kernels.specs.declared.choice.Choice.{Choice}
 use Rattle.offer.specs.State.{begin, moved}
 use Rattle.offer.specs.declared.state.State.{State}
-use Rattle.offer.specs.declared.state.Phase.{Phase}
-use Rattle.offer.specs.declared.state.Phase.the-variants.{Ready, AwaitingCost, AwaitingDerivatives}
 use Rattle.offer.specs.declared.state.Outcome.{Outcome}
 use Rattle.offer.specs.declared.state.Outcome.the-variants.{Refused, Proposed, Accepted, Rejected, Taken, Done}
-use Rattle.foreign_sessions.specs.declared.Turn.{Turn}
+use Rattle.codec.specs.Codec.{phase-of, turn-of}
+use Rattle.codec.specs.declared.Wholes.{Wholes}
 
 -- the word at index i
 abbrev pub word : List ℕ → ℕ → ℕ
@@ -27,21 +24,19 @@ word words i = getD words i 0
 -- ---- from lists
 
 -- the kernel is 0 where the words are of another layout, or the phase is none: refusal 2 meets it
-abbrev pub choice-in : (phase-known : Bool) → (words : List ℕ) → (numbers : List Float) → Choice
-choice-in phase-known words numbers = choosing (word words 4) (choice-of (cond (eqb (word words 0) 10 && phase-known) (word words 1) 0) (at numbers 0) (word words 2))
-
-abbrev pub phase-of : Turn → Phase
-phase-of turn = cond (eqb (turn .0) 0) Ready (cond (eqb (turn .0) 1) (AwaitingCost (turn .1) (turn .2)) AwaitingDerivatives)
+abbrev pub wholes-in : (phase-known : Bool) → (words : List ℕ) → Wholes
+wholes-in phase-known words = record {
+  kernel = cond (eqb (word words 0) 10 && phase-known) (word words 1) 0;
+  limit = word words 2;
+  allowance = word words 3;
+  dogleg = word words 4;
+  edition = word words 5;
+}
 
 abbrev pub state-in : (phase count : ℕ) → (numbers : List Float) → State
 state-in phase count numbers = moved (begin (at numbers 1) (at numbers 2)) (at numbers 1) (at numbers 2) (phase-of (phase, at numbers 3, at numbers 4)) count
 
 -- ---- into lists
-
-abbrev pub turn-of : Phase → Turn
-turn-of Ready = (0, nought, nought)
-turn-of (AwaitingCost promise norm) = (1, promise, norm)
-turn-of AwaitingDerivatives = (2, nought, nought)
 
 -- what a call returns, 0 or a refusal's number, and leaves in the two lists
 pub record Told : Type 0 where

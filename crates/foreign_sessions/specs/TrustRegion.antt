@@ -5,16 +5,16 @@ use Prim.Native.Nat.{ℕ}
 use lib.Dec.{leb}
 use lib.Ieee.{Float}
 use Rattle.vectors.specs.Vector.{at}
-use Rattle.trustregion.specs.Settings.{settings-of, allowing}
 use Rattle.trustregion.specs.Session.{start}
 use Rattle.trustregion.specs.declared.session.Session.{Session}
 use Rattle.trustregion.specs.declared.session.After.{After}
+use Rattle.codec.specs.Codec.{trust-region-of}
 use Rattle.foreign_sessions.specs.Lists as Lists
-use Rattle.foreign_sessions.specs.Lists.{word, choice-in, state-in, Told, kept, began}
+use Rattle.foreign_sessions.specs.Lists.{word, wholes-in, state-in, Told, kept, began}
 
 abbrev pub session-in : (phase : ℕ) → (words : List ℕ) → (numbers settings : List Float) → Session
 session-in phase words numbers settings = record {
-  settings = allowing (word words 3) (settings-of (choice-in (leb phase 2) words numbers) (at settings 0) (at settings 1) (at settings 2));
+  settings = trust-region-of (wholes-in (leb phase 2) words) (at numbers 0) settings;
   state = state-in phase (word words 7) numbers;
 }
 

@@ -11,19 +11,15 @@
 pub mod sr1_session;
 pub mod trust_region;
 
-use kernels::choice::Choice;
+use codec::Turn;
+use codec::Wholes;
 use offer::state;
 use offer::state::Outcome;
-use offer::state::Phase;
 use offer::state::State;
 use vectors::refusal;
 ghost use mathlib.Core.Path.{_≡_};
 ghost use mathlib.Core.Bool.{cond};
-ghost use Rattle.foreign_sessions.specs.Lists as Lists;
-ghost use Rattle.foreign_sessions.specs.Lists.{choice-in, state-in, told, written, kept};
-
-// A phase: its number, and what a cost is awaited on, the promise and the step norm, each 0 where none is.
-pub struct Turn(pub u64, pub f64, pub f64);
+ghost use Rattle.foreign_sessions.specs.Lists.{wholes-in, state-in, told, written, kept};
 
 // ---- from lists
 
@@ -34,46 +30,28 @@ fn kernel_of(kernel: u64, known: bool) -> u64
     if known { kernel } else { 0 }
 }
 
-pub(crate) fn choice_in(phase_known: bool, words: &[u64; 10], numbers: &[f64; 6]) -> Choice
-    ensures { λ r. ⌜ r ≡ choice-in «phase_known» (now (words .entry)) (now (numbers .entry)) ⌝ }
+pub(crate) fn wholes_in(phase_known: bool, words: &[u64; 10]) -> Wholes
+    ensures { λ r. ⌜ r ≡ wholes-in «phase_known» (now (words .entry)) ⌝ }
 {
     let known = refusal::both(words[0] == 10, phase_known);
-    let kernel = kernel_of(words[1], known);
-    let told = Choice::of(kernel, numbers[0], words[2]);
-    told.with_dogleg(words[4])
-}
-
-fn phase_of(turn: Turn) -> Phase
-    ensures { λ r. ⌜ r ≡ Lists.phase-of turn ⌝ }
-{
-    if turn.0 == 0 {
-        return Phase::Ready;
+    Wholes {
+        kernel: kernel_of(words[1], known),
+        limit: words[2],
+        allowance: words[3],
+        dogleg: words[4],
+        edition: words[5],
     }
-    if turn.0 == 1 {
-        return Phase::AwaitingCost(turn.1, turn.2);
-    }
-    Phase::AwaitingDerivatives
 }
 
 pub(crate) fn state_in(phase: u64, count: u64, numbers: &[f64; 6]) -> State
     ensures { λ r. ⌜ r ≡ state-in phase count (now (numbers .entry)) ⌝ }
 {
-    let phase = phase_of(Turn(phase, numbers[3], numbers[4]));
+    let phase = codec::phase_of(Turn(phase, numbers[3], numbers[4]));
     let begun = state::begin(numbers[1], numbers[2]);
     state::moved(begun, begun.radius, begun.cost, phase, count)
 }
 
 // ---- into lists
-
-fn turn_of(phase: Phase) -> Turn
-    ensures { λ r. ⌜ r ≡ Lists.turn-of phase ⌝ }
-{
-    match phase {
-        Phase::Ready => Turn(0, 0.0, 0.0),
-        Phase::AwaitingCost(promise, norm) => Turn(1, promise, norm),
-        Phase::AwaitingDerivatives => Turn(2, 0.0, 0.0),
-    }
-}
 
 // The first six words and epsilon stay: no call changes a setting. Where a call is taken epsilon is finite, so no NaN is copied.
 pub(crate) fn write(
@@ -87,7 +65,7 @@ pub(crate) fn write(
     ensures { λ r. ⌜ told r (now (words .exit)) (now (numbers .exit)) ≡ written (now (words .entry)) (now (numbers .entry)) state said passes ratio ⌝ }
 {
     let phase = state.phase;
-    let turn = turn_of(phase);
+    let turn = codec::turn_of(phase);
     *words = [
         words[0],
         words[1],

@@ -1,7 +1,6 @@
 // An SR1TrustRegion session in lists. Its own settings: radius, eta, factor, tol_grad. It awaits no derivatives.
 use sr1::session::Session;
 use sr1::session::Start;
-use sr1::settings::Settings;
 use sr1::sr1_trustregion;
 ghost use mathlib.Core.Path.{_≡_};
 ghost use Rattle.sr1.specs.Settings.{chosen};
@@ -13,11 +12,9 @@ ghost use Rattle.foreign_sessions.specs.Sr1.{session-in, starts, Driven}
 fn session_in(phase: u64, words: &[u64; 10], numbers: &[f64; 6], settings: &[f64; 4]) -> Session
     ensures { λ r. ⌜ r ≡ session-in phase (now (words .entry)) (now (numbers .entry)) (now (settings .entry)) ⌝ }
 {
-    let choice = crate::choice_in(phase <= 1, words, numbers);
-    let told = Settings::of(choice, settings[0], settings[1], settings[2], settings[3]);
-    let allowed = told.with_allowance(words[3]);
+    let whole = crate::wholes_in(phase <= 1, words);
     Session {
-        settings: allowed.with_edition(words[5]),
+        settings: codec::sr1(whole, numbers[0], settings),
         state: crate::state_in(phase, words[7], numbers),
     }
 }

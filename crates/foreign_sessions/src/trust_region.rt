@@ -1,7 +1,6 @@
 // A TrustRegion session in lists. Its own settings: radius, max_radius, eta.
 use trustregion::session::Session;
 use trustregion::session::Start;
-use trustregion::settings::Settings;
 use trustregion::trustregion_method;
 ghost use mathlib.Core.Path.{_≡_};
 ghost use Rattle.trustregion.specs.Settings.{chosen};
@@ -13,10 +12,9 @@ ghost use Rattle.foreign_sessions.specs.TrustRegion.{session-in, starts,
 fn session_in(phase: u64, words: &[u64; 10], numbers: &[f64; 6], settings: &[f64; 3]) -> Session
     ensures { λ r. ⌜ r ≡ session-in phase (now (words .entry)) (now (numbers .entry)) (now (settings .entry)) ⌝ }
 {
-    let choice = crate::choice_in(phase <= 2, words, numbers);
-    let told = Settings::of(choice, settings[0], settings[1], settings[2]);
+    let whole = crate::wholes_in(phase <= 2, words);
     Session {
-        settings: told.with_allowance(words[3]),
+        settings: codec::trust_region(whole, numbers[0], settings),
         state: crate::state_in(phase, words[7], numbers),
     }
 }

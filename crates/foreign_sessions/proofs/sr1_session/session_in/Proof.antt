@@ -5,10 +5,8 @@ use Rattle.foreign_sessions.proofs.sr1_session.session_in.Tie as tie
 
 returns : tie.Need-returns
 returns c =
-    let updated = c .before .before in
-    let allowed = updated .before .before in
-    let told = allowed .before .before in
-    rw (updated .with-edition .ensures, allowed .with-allowance .ensures, told .of .ensures, told .before .before .before .before .before .choice-in .ensures, c .state-in .ensures)
+    let told = c .before .before in
+    rw (told .sr1 .ensures, told .before .before .wholes-in .ensures, c .state-in .ensures)
 
 pub session-in-spec : {M : Type 1} → statement M
-session-in-spec = tie.close (tie.spec (λ c κs. search needs) (λ c. search needs) (λ c. search needs) (λ c. search needs) (λ c. search needs) (λ c κs. search needs) (λ c. search needs) (λ c κs. search needs) (λ c. search needs) (λ c κs. search needs) (λ c. search needs) (λ c κs. search needs) returns)
+session-in-spec = tie.close (tie.spec (λ c κs. search needs) (λ c. search needs) (λ c κs. search needs) (λ c. search needs) (λ c κs. search needs) returns)

@@ -1,7 +1,7 @@
--- `foreign_sessions::phase_of` meets its contract. Assumes nothing.
+-- `codec::phase_of` meets its contract. Assumes nothing.
 use borrow.Author.Tests.{eq-eqb, ne-eqb}
-use Rattle.foreign_sessions.proofs.phase_of.Statement.{statement}
-use Rattle.foreign_sessions.proofs.phase_of.Tie as tie
+use Rattle.codec.proofs.phase_of.Statement.{statement}
+use Rattle.codec.proofs.phase_of.Tie as tie
 
 returns : tie.Need-returns
 returns c = rw (eq-eqb _ _ (c .if1 .taken))

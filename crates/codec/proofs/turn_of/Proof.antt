@@ -1,7 +1,7 @@
--- `foreign_sessions::turn_of` meets its contract. Assumes nothing.
+-- `codec::turn_of` meets its contract. Assumes nothing.
 use borrow.Author.Needs.{needs}
-use Rattle.foreign_sessions.proofs.turn_of.Statement.{statement}
-use Rattle.foreign_sessions.proofs.turn_of.Tie as tie
+use Rattle.codec.proofs.turn_of.Statement.{statement}
+use Rattle.codec.proofs.turn_of.Tie as tie
 
 pub turn-of-spec : {M : Type 1} → statement M
 turn-of-spec =
