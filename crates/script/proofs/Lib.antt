@@ -1,0 +1,4 @@
+pub mod Standing
+pub mod Starts
+pub mod Calls
+pub mod Encoded

@@ -1,0 +1,4 @@
+pub mod Places
+pub mod Start
+pub mod Call
+pub mod Encode
