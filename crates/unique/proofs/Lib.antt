@@ -13,4 +13,9 @@ pub mod Stream
 pub mod Case
 pub mod Shortest
 pub mod Decimal
+pub mod Codec
+pub mod Script
+pub mod Event
+pub mod Station
+pub mod Report
 pub mod Fit

@@ -12,6 +12,7 @@ use lib.Ieee.{Float}
 use denote.Ref.{now}
 use Rattle.io.specs.Digits.{digits, Fewest}
 use Rattle.stream.specs.Output.{Put, PutWhole}
+use Rattle.stream.specs.Pieces.{Piece, text, whole, PutPiece, Puts, none, one}
 use Rattle.stream.specs.Input.{Next, next-by, Fills}
 use Rattle.stream.specs.declared.input.Input.{Input}
 use Rattle.stream.specs.declared.input.Word.{Word}
@@ -31,11 +32,20 @@ count p q = le-antisymm (not-above (no-fewer q p)) (not-above (no-fewer p q))
 
 -- a put that begins where another does leaves what the other leaves
 module _ {page page₀ page₁ page₂ : List ℕ} {at at₀ at₁ at₂ : ℕ} where
-  pub put : {t : List ℕ} → page ≡ page₀ → at ≡ at₀ → Put page at t page₁ at₁ → Put page₀ at₀ t page₂ at₂ → (at₁ ≡ at₂) × (page₁ ≡ page₂)
+  put : {t : List ℕ} → page ≡ page₀ → at ≡ at₀ → Put page at t page₁ at₁ → Put page₀ at₀ t page₂ at₂ → (at₁ ≡ at₂) × (page₁ ≡ page₂)
   put e f p q = let g = p .place in let h = q .place in let k = p .paper in let l = q .paper in (cc, cc)
 
-  pub put-whole : {n : ℕ} → page ≡ page₀ → at ≡ at₀ → PutWhole page at n page₁ at₁ → PutWhole page₀ at₀ n page₂ at₂ → (at₁ ≡ at₂) × (page₁ ≡ page₂)
+  put-whole : {n : ℕ} → page ≡ page₀ → at ≡ at₀ → PutWhole page at n page₁ at₁ → PutWhole page₀ at₀ n page₂ at₂ → (at₁ ≡ at₂) × (page₁ ≡ page₂)
   put-whole {n} e f p q = put e f (p .put) (subst (λ k. Put page₀ at₀ (digits 10 k n) page₂ at₂) (count (q .fewest) (p .fewest)) (q .put))
+
+-- pieces that are put one after another: each begins where the one before ended
+put-piece : (c : Piece) (page page₀ page₁ page₂ : List ℕ) (at at₀ at₁ at₂ : ℕ) → page ≡ page₀ → at ≡ at₀ → PutPiece c page at page₁ at₁ → PutPiece c page₀ at₀ page₂ at₂ → (at₁ ≡ at₂) × (page₁ ≡ page₂)
+put-piece (text t) page page₀ page₁ page₂ at at₀ at₁ at₂ e f p q = put e f p q
+put-piece (whole n) page page₀ page₁ page₂ at at₀ at₁ at₂ e f p q = put-whole e f p q
+
+pub puts : (cs : List Piece) {page page₀ page₁ page₂ : List ℕ} {at at₀ at₁ at₂ : ℕ} → page ≡ page₀ → at ≡ at₀ → Puts cs page at page₁ at₁ → Puts cs page₀ at₀ page₂ at₂ → (at₁ ≡ at₂) × (page₁ ≡ page₂)
+puts [] e f none none = (f, e)
+puts (c ∷ cs) e f (one p ps) (one q qs) = let d = put-piece c _ _ _ _ _ _ _ _ e f p q in puts cs (d .1) (d .0) ps qs
 
 pub table : List Line
 table =
@@ -47,6 +57,9 @@ table =
     ∷ unique stream.«put_whole».ended (λ M. stream.«put_whole».spec) (λ w κs a g r. refl) (λ κs a r r₂ s s₂ p q. let e = put-whole refl refl p q in ((λ i. record { at = e .0 i }), λ i. e .1 i & tt & tt & tt))
     ∷ unique stream.«put_blank».ended (λ M. stream.«put_blank».spec) (λ w κs a g r. refl) (λ κs a r r₂ s s₂ p q. ((λ i. record { at = alike (p .place) (q .place) i }), λ i. alike (p .paper) (q .paper) i & tt & tt))
     ∷ unique stream.«put_line_end».ended (λ M. stream.«put_line_end».spec) (λ w κs a g r. refl) (λ κs a r r₂ s s₂ p q. ((λ i. record { at = alike (p .place) (q .place) i }), λ i. alike (p .paper) (q .paper) i & tt & tt))
+    ∷ unique stream.«put_refused».ended (λ M. stream.«put_refused».spec) (λ w κs a g r. refl) (λ κs a r r₂ s s₂ p q. let e = puts _ refl refl p q in ((λ i. record { at = e .0 i }), λ i. e .1 i & tt & tt & tt))
+    ∷ unique stream.«put_named».ended (λ M. stream.«put_named».spec) (λ w κs a g r. refl) (λ κs a r r₂ s s₂ p q. let e = puts _ refl refl p q in ((λ i. record { at = e .0 i }), λ i. e .1 i & tt & tt & tt & tt))
+    ∷ unique stream.«put_list».ended (λ M. stream.«put_list».spec) (λ w κs a g r. refl) (λ κs a r r₂ s s₂ p q. let e = puts _ refl refl p q in ((λ i. record { at = e .0 i }), λ i. e .1 i & tt & tt & tt & tt))
     ∷ []
 
 -- ---- what reads the room: one result while the room has what is asked for, and so the system is not asked
