@@ -37,13 +37,9 @@ pub struct Ran {
 }
 
 // Runs a script to its end. What follows words that are bad, or a start that is refused, is read past.
-pub fn run(
-    manner: Manner,
-    room: &mut [u8],
-    page: &mut [u8],
-    script: Script,
-    output: Output,
-) -> Ran {
+pub fn run(manner: Manner, room: &mut [u8], page: &mut [u8], script: Script, output: Output) -> Ran
+    ensures { λ r. ⌜ Meaning.Ended (now (room .entry)) (now (page .entry)) (now (room .exit)) (now (page .exit)) (r .script) ⌝ }
+{
     let mut words = [0u64; 4239];
     let held = reading::read(room, &mut words, Part::Start, script);
     let count = held.count;
