@@ -1,5 +1,7 @@
 // A kernel's case as the programs read it, in words of 8 bytes: kernel 1 to 3, n, radius, epsilon,
 // limit, g, H; and as they write it.
+#![tactic(auto)]
+
 pub mod lines;
 
 ghost use Rattle.std.specs.Prelude.{◌≡◌, ◌+◌, ◌*◌, ◌≤◌, length};

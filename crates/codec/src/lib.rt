@@ -1,6 +1,8 @@
 // Which word is which setting, and which number which phase, said once: for the scripts, and for the sessions that C drives. Whole numbers
 // stand as they are; numbers in the order of document 01, epsilon by itself, since both kinds have it. Nothing is checked here: a start and
 // each call do that.
+#![tactic(auto)]
+
 ghost use Rattle.std.specs.Prelude.{◌≡◌};
 ghost use Rattle.codec.specs.Codec as Codec;
 ghost use Rattle.codec.specs.Codec.{trust_region_of, sr1_of};

@@ -1,5 +1,7 @@
 // An f64 as a person writes it: the shortest digits that read back as it, positional from 1e-5 up to
 // below 1e16 and scientific otherwise.
+#![tactic(auto)]
+
 mod layout;
 
 ghost use Rattle.std.specs.Prelude.{◌≡◌};

@@ -1,5 +1,7 @@
 // Reads words of 8 bytes from standard input, each the bits of an f64, and writes the decimal text of
 // each in a line of its own. Bytes that make no whole word at the end are the line `bad input`.
+#![tactic(auto)]
+
 use stream::{Output, Word};
 
 fn line(page: &mut [u8], output: Output, bits: u64) -> Output {

@@ -1,4 +1,6 @@
 // What happened, whatever the kind of session and however it is written.
+#![tactic(auto)]
+
 ghost use Rattle.std.specs.Prelude.{◌≡◌};
 ghost use Rattle.event.specs.Event as Definition;
 

@@ -1,5 +1,7 @@
 // The fit station in a file: a script has the words of a session's start and of its calls, and what each
 // comes to is written in their order.
+#![tactic(auto)]
+
 mod reading;
 
 ghost use Rattle.std.specs.Prelude.{◌≡◌, ◌*◌, ◌≤◌, true, length, take};

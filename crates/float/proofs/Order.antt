@@ -212,6 +212,10 @@ signed_dual false false a b = go (ltb a b) (ltb b a) (eqb b a) (three a b)
     go true false false (below h) = refl
     go false false true (equal h) = refl
     go false true false (above h) = refl
+    go false false false x4 = elim x4 [ ]
+    go false true true x5 = elim x5 [ ]
+    go true false true x5 = elim x5 [ ]
+    go true true z x5 = elim x5 [ ]
 signed_dual false true a b = rw (is_true (ltb 0 (b + a) || (eqb b a && (false || eqb b 0))) (minus_plus b a))
 signed_dual true false a b = elim (eq-zero-or-pos (a + b)) [
   | inl z ↦ rw (le-ltb 0 (a + b) (le_of_eq z), eq-eqb b a (omega arith), eq-eqb b 0 (omega arith))
@@ -226,6 +230,10 @@ signed_dual true true a b = go (ltb a b) (ltb b a) (eqb b a) (three a b)
     go true false false (below h) = refl
     go false false true (equal h) = refl
     go false true false (above h) = refl
+    go false false false x4 = elim x4 [ ]
+    go false true true x5 = elim x5 [ ]
+    go true false true x5 = elim x5 [ ]
+    go true true z x5 = elim x5 [ ]
 
 pub lt_is : (x y : Float) → T (real x) → T (real y) → lt x y ≡ not (le y x)
 unfolding lt le is_nan

@@ -138,6 +138,12 @@ value_unique (fin t (suc m) e) (fin u zero g) s a c C p q v w = absurd (not_zero
 value_unique (fin t (suc m) e) (fin u (suc n) g) s a c C p q v w =
     let r = same_power (suc m) (suc n) e g (is_odd m e t p) (is_odd n g u q) (crossed (suc m) e (suc n) g a c C v.1 w.1) in
     λ i. fin ((v.0 ∙ sym w.0) i) (r.0 i) (r.1 i)
+value_unique lib.Ieee.nan y s a c C p q v w = elim v [ ]
+value_unique (lib.Ieee.inf _) y s a c C p q v w = elim v [ ]
+value_unique (fin t zero e) lib.Ieee.nan s a c C p q v w = elim w [ ]
+value_unique (fin t zero e) (lib.Ieee.inf _) s a c C p q v w = elim w [ ]
+value_unique (fin t (suc m) e) lib.Ieee.nan s a c C p q v w = elim w [ ]
+value_unique (fin t (suc m) e) (lib.Ieee.inf _) s a c C p q v w = elim w [ ]
 
 -- ---- rounding changes nothing at an f64's own value
 pub round_own : (s : Bool) (m : ℕ) (e : ℤ) → T (fits binary64 (fin s m e)) → round binary64 s (m * up e) (down e) ≡ fin s m e

@@ -1,6 +1,8 @@
 // What Rust's f64 offers and Rattle does not, written out: finite, is_nan, abs, min, from_bits and
 // to_bits, each total and equal to a definition of specs/Numbers.antt or of the language's own
 // account of IEEE 754.
+#![tactic(auto)]
+
 ghost use Rattle.std.specs.Prelude.{◌≡◌};
 ghost use Rattle.std.specs.Float.{binary64};
 ghost use Rattle.std.specs.Float.Ieee.{is_nan, of_bits, to_bits};

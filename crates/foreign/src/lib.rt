@@ -2,6 +2,8 @@
 // mboyaxin_. An enum cannot cross that border: what may be refused returns the refusal's number, 0 for none, and writes what it
 // gives where it is told, which a refusal leaves as it was. The benchmarks time the root and the kernels here, and what reads the bits of
 // a NaN from outside calls the rest.
+#![tactic(auto)]
+
 ghost use Rattle.std.specs.Prelude.{◌≡◌, true};
 ghost use Rattle.std.specs.Float.{binary64};
 ghost use Rattle.std.specs.Float.Ieee.{of_bits, to_bits};

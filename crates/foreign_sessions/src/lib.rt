@@ -8,6 +8,8 @@
 // ratio of a verdict. What a call does not tell is 0.
 // A refusal is its number, and leaves every list as it was; 0 says that there is none. Nothing here passes through one_nan: what is read
 // from outside has the bits that the sessions gave it.
+#![tactic(auto)]
+
 pub mod sr1_session;
 pub mod trust_region;
 

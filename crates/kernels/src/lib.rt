@@ -1,4 +1,6 @@
 // The trust-region kernels of argmin's solver/trustregion, a second dogleg, the workspace and the inverse below them.
+#![tactic(auto)]
+
 pub mod cauchypoint;
 pub mod choice;
 pub mod dogleg;

@@ -2,6 +2,8 @@
 // is its number and its arguments, in words of 8 bytes; a line is `is` and the answer, or `refused` and
 // a number. Input that ends inside a call, or has a number that no call has, ends the run with the line
 // `bad input`.
+#![tactic(auto)]
+
 mod calls;
 mod lines;
 mod lists;

@@ -1,4 +1,6 @@
 // What every session that offers a step shares: its sizes and ranges, the kernel's run, and the trial point.
+#![tactic(auto)]
+
 pub mod lent;
 pub mod range;
 pub mod state;

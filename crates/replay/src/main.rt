@@ -1,4 +1,6 @@
 // Runs the script on standard input: a session's start and its calls, a line or more for each.
+#![tactic(auto)]
+
 use fit::Manner;
 
 fn main() {

@@ -1,4 +1,6 @@
 // Runs the script on standard input, as `replay` does, and writes a table for people.
+#![tactic(auto)]
+
 use fit::Manner;
 
 fn main() {

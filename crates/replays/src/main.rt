@@ -1,6 +1,8 @@
 // Runs many scripts. Standard input has for each a word with its length in words, and its words; the
 // lines of each are written one after another. What is there of a script that runs past the end is run;
 // bytes in the place of a length that make no word end the run with the line `bad input`.
+#![tactic(auto)]
+
 use fit::Manner;
 use stream::{Input, Output, Word};
 

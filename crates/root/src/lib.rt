@@ -1,6 +1,8 @@
 // The square root of IEEE 754, worked out from bits over whole numbers: 54 binary digits of the root,
 // one a turn, and the last of them rounded away. No tie can occur, since the root of an f64 never
 // lies halfway between two of them.
+#![tactic(auto)]
+
 ghost use Rattle.std.specs.Prelude.{◌≡◌, ◌+◌, ◌*◌, ◌/◌, ◌%◌, ◌<◌, ◌≤◌, ◌^◌};
 ghost use Rattle.std.specs.Float.{binary64};
 ghost use Rattle.std.specs.Float.Ieee.{of_bits};

@@ -1,4 +1,6 @@
 // A session of either kind, driven by the calls of a script: what each comes to, in one set of events.
+#![tactic(auto)]
+
 mod sr1_session;
 mod trust_region;
 

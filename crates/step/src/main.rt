@@ -1,4 +1,6 @@
 // Reads one case from standard input and writes its step, or why there is none.
+#![tactic(auto)]
+
 use libc::STDIN_FILENO;
 
 // No case has more than 33,320 bytes, so a room that is full holds too many, whatever comes after.

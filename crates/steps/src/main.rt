@@ -1,6 +1,8 @@
 // Answers many cases in one run. Standard input has for each case a word with its length in bytes, and
 // its bytes; the lines of each are written one after another. A length that runs past the end, or
 // bytes that make no word, end the run with the line `bad input`.
+#![tactic(auto)]
+
 ghost use Rattle.std.specs.Prelude.{◌≤◌};
 
 use case::Said;

@@ -1,1 +1,3 @@
 // Every promise has one result: no code, proofs/ alone.
+
+#![tactic(auto)]
