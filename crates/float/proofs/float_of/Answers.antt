@@ -1,5 +1,5 @@
 -- `float::float_of` meets its contract. Assumes nothing.
-use mathlib.Core.Path.{refl, sym}
+use mathlib.Core.Path.{sym}
 use lib.Ieee.{div, of_bits}
 use Rattle.float.proofs.Nan.{no_nan_bits, nan_bits_lem}
 use Rattle.float.proofs.float_of.Goals as goal

@@ -1,0 +1,12 @@
+-- `words::glyph` meets its contract. Assumes nothing.
+use borrow.Author.Tests.{lt-ltb, le-ltb}
+use Rattle.words.specs.Words.{glyph}
+use Rattle.words.proofs.glyph.Goals as goal
+
+pub returns-then-d-lt10 : goal.returns-then-d-lt10
+unfolding glyph
+returns-then-d-lt10 c = simp (lt-ltb _ _ c.if-d-lt10.true)
+
+pub returns-else-d-lt10 : goal.returns-else-d-lt10
+unfolding glyph
+returns-else-d-lt10 c = simp (le-ltb _ _ c.if-d-lt10.false)
