@@ -2,21 +2,14 @@
 use mathlib.Core.Path.{◌≡◌, refl, sym, ◌∙◌}
 use mathlib.Core.Bool.{Bool, false, ◌&&◌}
 use mathlib.Core.List.{List}
-use Prim.Native.Nat.{ℕ, suc, ◌<◌, ◌≤◌, ◌+◌, ◌-◌}
+use Prim.Native.Nat.{ℕ, suc, ◌<◌, ◌≤◌, ◌+◌}
 use native.Mathlib.Numerals.{add-one}
 use lib.ListN.{length, drop, get_or, drop_of_length-le}
 use lib.Seq.{drop-cons}
 use borrow.Author.Rules.{rules}
 use Rattle.vectors.specs.Refusal.{all_hold}
 use Rattle.vectors.proofs.Sizes.{and_assoc, and_true}
-use Rattle.vectors.proofs.refusal.all_hold.Statement.{statement}
-use Rattle.vectors.proofs.refusal.all_hold.Tie as tie
-
-abbrev invariant-loop : tie.invariant-loop
-invariant-loop tests all₀ i₀ all i = (i ≤ length tests) × ((all && all_hold (drop i tests)) ≡ all_hold tests)
-
-abbrev decreases-loop : tie.decreases-loop
-decreases-loop tests all₀ i₀ all i = length tests - i
+use Rattle.vectors.proofs.refusal.all_hold.Goals as goal
 
 module _ (tests : List Bool) (i : ℕ) (all : Bool) (inv : (all && all_hold (drop i tests)) ≡ all_hold tests) where
   more : (next : Bool) → i < length tests → next ≡ (all && get_or tests i false) → (next && all_hold (drop (i + 1) tests)) ≡ all_hold tests
@@ -27,11 +20,11 @@ module _ (tests : List Bool) (i : ℕ) (all : Bool) (inv : (all && all_hold (dro
   done : length tests ≤ i → all ≡ all_hold tests
   done h = sym (and_true all) ∙ (rw (drop_of_length-le tests h) at inv)
 
-pub all_hold_spec : {M : Type 1} → statement M
-all_hold_spec =
-    tie.close
-    (tie.spec invariant-loop decreases-loop
-    (λ c. (search rules, refl))
-    (λ c. search rules) (λ c κs. search rules) (λ c. search rules) (λ c. search rules)
-    (λ c. let l = c.before.before.before in (search rules, more l.before.before.args.tests.now l.loop.i l.loop.all l.loop.invariant.1 _ (search rules) c.both.ensures))
-    (λ c. done _ c.before.loop.i c.before.loop.all c.before.loop.invariant.1 c.loop-test.false))
+pub loop-i-init : goal.loop-i-init
+loop-i-init c = (search rules, refl)
+
+pub loop-i-preserved : goal.loop-i-preserved
+loop-i-preserved c = let l = c.before.before.before in (search rules, more l.args.tests.now l.loop-i.i l.loop-i.all l.loop-i.invariant.1 _ (search rules) c.both-all.ensures)
+
+pub returns : goal.returns
+returns c = done _ c.loop-i.i c.loop-i.all c.loop-i.invariant.1 c.loop-i-test.false

@@ -2,7 +2,7 @@
 use mathlib.Core.Bool.{Bool, ◌&&◌}
 use mathlib.Core.List.{List}
 use mathlib.Core.Path.{◌≡◌, refl, sym, ◌∙◌, ap}
-use Prim.Native.Nat.{ℕ, ◌<◌, ◌≤◌, ◌+◌, ◌-◌}
+use Prim.Native.Nat.{ℕ, ◌<◌, ◌≤◌, ◌+◌}
 use native.Mathlib.Numerals.{add-one}
 use lib.ListN.{length, drop, drop_of_length-le}
 use lib.Seq.{drop-cons}
@@ -11,14 +11,7 @@ use borrow.Author.Rules.{rules}
 use Rattle.float.specs.Numbers.{finite}
 use Rattle.vectors.specs.Vector.{at, all_finite}
 use Rattle.vectors.proofs.Sizes.{and_assoc, and_true}
-use Rattle.vectors.proofs.vector.all_finite.Statement.{statement}
-use Rattle.vectors.proofs.vector.all_finite.Tie as tie
-
-abbrev invariant-loop : tie.invariant-loop
-invariant-loop v all₀ i₀ all i = (i ≤ length v) × ((all && all_finite (drop i v)) ≡ all_finite v)
-
-abbrev decreases-loop : tie.decreases-loop
-decreases-loop v all₀ i₀ all i = length v - i
+use Rattle.vectors.proofs.vector.all_finite.Goals as goal
 
 module _ (v : List Float) (i : ℕ) (all : Bool) (inv : (all && all_finite (drop i v)) ≡ all_finite v) where
   -- what is left at i is the number at i and what is left after it
@@ -33,13 +26,13 @@ module _ (v : List Float) (i : ℕ) (all : Bool) (inv : (all && all_finite (drop
   unfolding all_finite
   done h = sym (and_true all) ∙ (rw (drop_of_length-le v h) at inv)
 
-pub all_finite_spec : {M : Type 1} → statement M
-all_finite_spec =
-    tie.close
-    (tie.spec invariant-loop decreases-loop
-    (λ c. (search rules, refl))
-    (λ c. search rules) (λ c. search rules) (λ c κs. search rules) (λ c κs. search rules) (λ c. search rules) (λ c. search rules)
-    (λ c.
+pub loop-i-init : goal.loop-i-init
+loop-i-init c = (search rules, refl)
+
+pub loop-i-preserved : goal.loop-i-preserved
+loop-i-preserved c =
     let l = c.before.before.before.before in
-    (search rules, more l.before.before.args.v.now l.loop.i l.loop.all l.loop.invariant.1 _ _ (search rules) c.before.finite.ensures c.both.ensures))
-    (λ c. done _ c.before.loop.i c.before.loop.all c.before.loop.invariant.1 c.loop-test.false))
+    (search rules, more l.args.v.now l.loop-i.i l.loop-i.all l.loop-i.invariant.1 _ _ (search rules) c.finite.ensures c.both-all.ensures)
+
+pub returns : goal.returns
+returns c = done _ c.loop-i.i c.loop-i.all c.loop-i.invariant.1 c.loop-i-test.false

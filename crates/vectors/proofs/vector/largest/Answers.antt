@@ -1,8 +1,7 @@
 -- `vectors::vector::largest` meets its contract. The loop's invariant: top is the pattern of the largest of the first i magnitudes. Assumes nothing.
 use mathlib.Core.Path.{◌≡◌, refl, sym, ap, ◌∙◌}
-use mathlib.Core.Logic.{⊎_elim}
 use mathlib.Core.List.{List}
-use Prim.Native.Nat.{ℕ, ◌+◌, ◌-◌, ◌%◌, ◌^◌, ◌≤◌, ◌<◌}
+use Prim.Native.Nat.{ℕ, ◌+◌, ◌%◌, ◌^◌, ◌≤◌, ◌<◌}
 use native.Mathlib.Nat.{le_of_eq, lt_of_lt_of_le, lt_of_le_of_lt, le_trans}
 use native.Mathlib.Numerals.{add-one}
 use native.Mathlib.Omega.{arith}
@@ -15,14 +14,8 @@ use Rattle.float.specs.Numbers.{magnitude, larger}
 use Rattle.vectors.specs.Vector.{at, largest_to, largest}
 use Rattle.float.proofs.Patterns.{magnitude_fits, magnitude_sign, magnitude_bits, larger_bits}
 use Rattle.vectors.proofs.Largest.{top_fits, top_sign}
-use Rattle.vectors.proofs.vector.largest.Statement.{statement}
-use Rattle.vectors.proofs.vector.largest.Tie as tie
-
-abbrev invariant-loop : tie.invariant-loop
-invariant-loop v top₀ i₀ top i = (i ≤ length v) × (top ≡ to_bits binary64 (largest_to v i))
-
-abbrev decreases-loop : tie.decreases-loop
-decreases-loop v top₀ i₀ top i = length v - i
+use Rattle.vectors.proofs.vector.largest.Goals as goal
+use Rattle.vectors.proofs.vector.largest.Goals.{then-top-bits, else-top-bits}
 
 module _ (v : List Float) (fit : (i : ℕ) → T (fits binary64 (at v i))) (i top b : ℕ) (e : top ≡ to_bits binary64 (largest_to v i)) (h : b ≡ to_bits binary64 (at v i)) where
   is_bits : b % 2 ^ 63 ≡ to_bits binary64 (magnitude (at v i))
@@ -47,32 +40,24 @@ done : (v : List Float) → ((i : ℕ) → T (fits binary64 (at v i))) → (i to
 unfolding largest
 done v fit i top r n e h = h ∙ ap (of_bits binary64) (e ∙ ap (λ (j : ℕ). to_bits binary64 (largest_to v j)) n) ∙ of_bits-to_bits binary64 (largest_to v (length v)) (top_fits v fit (length v))
 
-loop-holds : tie.Need-loop-init invariant-loop decreases-loop
+pub loop-i-init : goal.loop-i-init
 unfolding largest_to to_bits of_bits
-loop-holds c = (search rules, refl)
+loop-i-init c = (search rules, refl)
 
-loop-again : tie.Need-loop-preserved invariant-loop decreases-loop
-loop-again c =
+pub loop-i-preserved : goal.loop-i-preserved
+loop-i-preserved c =
     let r = c.before in
     let l = r.before.before.before in
-    let v = l.before.before.args.v.now in (
+    let v = l.args.v.now in (
       search rules,
-      ⊎_elim (λ w. taken v l.before.shared-slice-known.given l.loop.i l.loop.top r.bits_of.result l.loop.invariant.1 r.bits_of.ensures c.if1.top w.1 (omega arith))
-          (λ w. left v l.before.shared-slice-known.given l.loop.i l.loop.top r.bits_of.result l.loop.invariant.1 r.bits_of.ensures c.if1.top w.1 (omega arith)) c.if1.branch,
+      elim c.if-top-bits.branch [
+        | then-top-bits w ↦ taken v c.type_inv.v l.loop-i.i l.loop-i.top r.bits_of-bits.result l.loop-i.invariant.1 r.bits_of-bits.ensures c.if-top-bits.top w.top-is (omega arith)
+        | else-top-bits w ↦ left v c.type_inv.v l.loop-i.i l.loop-i.top r.bits_of-bits.result l.loop-i.invariant.1 r.bits_of-bits.ensures c.if-top-bits.top w.top-is (omega arith)
+      ],
     )
 
-returns : tie.Need-returns invariant-loop decreases-loop
+pub returns : goal.returns
 returns c =
     let l = c.before.before in
-    let v = l.before.before.args.v.now in
-    done v l.before.shared-slice-known.given l.loop.i l.loop.top c.float_of.result (omega arith) l.loop.invariant.1 c.float_of.ensures
-
-pub largest_spec : {M : Type 1} → statement M
-largest_spec =
-    tie.close
-    (tie.spec invariant-loop decreases-loop
-    loop-holds
-    (λ c. search rules) (λ c. search rules) (λ c κs. search rules) (λ c. search rules) (λ c. search rules)
-    loop-again
-    (λ c κs. search rules)
-    returns)
+    let v = l.args.v.now in
+    done v c.type_inv.v l.loop-i.i l.loop-i.top c.float_of.result (omega arith) l.loop-i.invariant.1 c.float_of.ensures

@@ -1,0 +1,11 @@
+-- `vectors::vector::norm` meets its contract. Assumes nothing.
+use mathlib.Core.Path.{ap}
+use Rattle.vectors.specs.Refusal.{given}
+use Rattle.vectors.proofs.Sizes.{failed, passed}
+use Rattle.vectors.proofs.vector.norm.Goals as goal
+
+pub returns-then-not-all_hold : goal.returns-then-not-all_hold
+returns-then-not-all_hold c = let tested = c.before in rw (failed (rw tested.size.ensures at tested.all_hold.ensures) c.if-not-all_hold.true)
+
+pub returns : goal.returns
+returns c = let tested = c.before.before in rw (passed (rw tested.size.ensures at tested.all_hold.ensures) c.if-not-all_hold.false) (ap given c.norm_any.ensures)

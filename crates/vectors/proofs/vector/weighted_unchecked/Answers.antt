@@ -1,0 +1,19 @@
+-- `vectors::vector::weighted_unchecked` meets its contract. The loop's invariant: total is the sum of the first i products with H·b. Assumes nothing.
+use mathlib.Core.Path.{refl}
+use native.Mathlib.Omega.{arith}
+use borrow.Author.Rules.{rules}
+use Rattle.vectors.specs.Vector.{dot_to}
+use Rattle.vectors.proofs.Vectors.{weighted_more, weighted_done}
+use Rattle.vectors.proofs.vector.weighted_unchecked.Goals as goal
+
+pub loop-i-init : goal.loop-i-init
+unfolding dot_to
+loop-i-init c = (search rules, refl)
+
+pub loop-i-preserved : goal.loop-i-preserved
+unfolding dot_to
+loop-i-preserved c = let l = c.before.before.before in (search rules, weighted_more _ _ _ _ l.loop-i.i _ _ c.loop-i-test.true l.loop-i.invariant.1 c.row_dot.ensures)
+
+pub returns : goal.returns
+unfolding dot_to
+returns c = let s = c.before.before.before.before.before in weighted_done _ _ _ _ c.loop-i.i _ (omega (arith, s.requires.1)) c.loop-i.invariant.1
