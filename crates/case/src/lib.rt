@@ -16,7 +16,7 @@ use kernels::kernel::Stepped;
 use vectors::refusal::Refusal;
 
 // The size of a step and its passes, or why there is none.
-#[derive(Drop)]
+#[derive(Clone, Copy)]
 pub enum Said {
     Step(usize, u64),
     Refused(Refusal),

@@ -11,7 +11,7 @@ use kernels::choice::Choice;
 use offer::state::Phase;
 
 // The settings that are whole numbers. TrustRegion passes over the edition.
-#[derive(Drop)]
+#[derive(Clone, Copy)]
 pub struct Wholes {
     pub kernel: u64,
     pub limit: u64,
@@ -66,7 +66,7 @@ pub fn sr1(whole: Wholes, epsilon: f64, numbers: &[f64; 4]) -> sr1::settings::Se
 // ---- phases
 
 // A phase: its number, and what a cost is awaited on, the promise and the step norm, each 0 where none is.
-#[derive(Drop)]
+#[derive(Clone, Copy)]
 pub struct Turn(pub u64, pub f64, pub f64);
 
 pub fn phase_of(turn: Turn) -> Phase

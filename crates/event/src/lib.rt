@@ -9,7 +9,7 @@ use vectors::refusal::Refusal;
 
 // Of a start and of the end, the state that the session is in. Of a trial, whether it was accepted, the cost that it was answered, the ratio,
 // and the radius afterwards. After a start that is refused, the end, and words that are bad, nothing follows.
-#[derive(Drop)]
+#[derive(Clone, Copy)]
 pub enum Event {
     Started(State),
     NotStarted(Refusal),

@@ -21,14 +21,14 @@ use station::{After, Begun, Session};
 use stream::Output;
 
 // How what happened is written: as lines of words, or as a table for people.
-#[derive(Drop)]
+#[derive(Clone, Copy)]
 pub enum Manner {
     Lines,
     Table,
 }
 
 // Where a script leaves what it was read from and what it was written to.
-#[derive(Drop)]
+#[derive(Clone, Copy)]
 pub struct Ran {
     pub script: Script,
     pub output: Output,
@@ -189,7 +189,7 @@ fn first(begun: Begun) -> Event
 }
 
 // Where the run of a script stands: so many trials were answered; it is running until the last event of all.
-#[derive(Drop)]
+#[derive(Clone, Copy)]
 struct Standing {
     session: Session,
     script: Script,

@@ -7,7 +7,7 @@ use script::{Kind, call, start};
 use stream::{Input, Word};
 
 // Where it is read on, and how many words it may still have.
-#[derive(Drop)]
+#[derive(Clone, Copy)]
 pub struct Script {
     pub input: Input,
     pub left: u64,
@@ -35,14 +35,14 @@ fn over() -> Script
 }
 
 // What is read whole: a start, or a call of a session of a kind and an n.
-#[derive(Drop)]
+#[derive(Clone, Copy)]
 pub(crate) enum Part {
     Start,
     Call(Kind, usize),
 }
 
 // Whether the script goes on, as far as was read; or it ended, behind its last word or with bytes that make none.
-#[derive(Drop)]
+#[derive(Clone, Copy)]
 pub enum Ending {
     None,
     Whole,
@@ -50,7 +50,7 @@ pub enum Ending {
 }
 
 // How many words of a part are in the room, whether the script ended there, and where it goes on.
-#[derive(Drop)]
+#[derive(Clone, Copy)]
 pub(crate) struct Held {
     pub(crate) count: usize,
     pub(crate) ending: Ending,
@@ -58,7 +58,7 @@ pub(crate) struct Held {
 }
 
 // The next word, or the script's end.
-#[derive(Drop)]
+#[derive(Clone, Copy)]
 enum Came {
     Is(u64, Script),
     Over(Ending, Script),

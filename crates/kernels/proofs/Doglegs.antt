@@ -1,11 +1,10 @@
 -- Laws of Dogleg. Assumes nothing.
 use mathlib.Core.Path.{◌≡◌, refl, sym, ◌∙◌, ap, subst}
-use mathlib.Core.Bool.{Bool, true, false, cond, not}
+use mathlib.Core.Bool.{Bool, true, false, cond}
 use mathlib.Core.List.{List}
 use Prim.Native.Nat.{ℕ, zero, suc}
 use lib.ListN.{length}
 use lib.Ieee.{Float, lt, le, neg}
-use borrow.Author.Tests.{not-true, not-false}
 use Rattle.float.specs.Numbers.{◌⊕◌, ◌⊖◌, ◌⊗◌, ◌⊘◌, square}
 use Rattle.float.specs.Constants.{nought, one, two}
 use Rattle.root.specs.Root.{root}
@@ -79,15 +78,15 @@ module _ (step : ℕ → Float → (pb pu : List Float) → List Float) (n : ℕ
 
   -- `lay`, where the code has pb, or f says that a pivot was refused
   module _ (f : Bool) (pb w : List Float) (e : newton_in f pb ≡ newton n g H) where
-    pub between_none : (len : ℕ) (w' : List Float) → not f ≡ true → len ≡ length w → w' ≡ zeros len → Laid (between step n radius g H) (Refused Pivot) w w'
+    pub between_none : (len : ℕ) (w' : List Float) → f ≡ false → len ≡ length w → w' ≡ zeros len → Laid (between step n radius g H) (Refused Pivot) w w'
     unfolding between newton_in
-    between_none len w' h l z = rw (← e, not-true f h) (record { says = refl; lays = z ∙ ap zeros l })
+    between_none len w' h l z = rw (← e, h) (record { says = refl; lays = z ∙ ap zeros l })
 
-    pub between_laid : (w₁ w₂ : List Float) (r : Stepped) → Proper n (between step n radius g H) → not f ≡ false → slot w₁ n 0 ≡ step n radius pb (unconstrained n g H) → length w₁ ≡ length w
+    pub between_laid : (w₁ w₂ : List Float) (r : Stepped) → Proper n (between step n radius g H) → f ≡ true → slot w₁ n 0 ≡ step n radius pb (unconstrained n g H) → length w₁ ≡ length w
         → Laid (handed_out (made 0 (slot w₁ n 0))) r w₁ w₂ → Laid (between step n radius g H) r w w₂
     unfolding between newton_in
     between_laid w₁ w₂ r proper h a l p =
-        let made_of : handed_out (made 0 (slot w₁ n 0)) ≡ between step n radius g H = rw (← e, not-false f h) (ap (λ (v : List Float). handed_out (made 0 v)) a) in
+        let made_of : handed_out (made 0 (slot w₁ n 0)) ≡ between step n radius g H = rw (← e, h) (ap (λ (v : List Float). handed_out (made 0 v)) a) in
         laid_same n (handed_out (made 0 (slot w₁ n 0))) (between step n radius g H) r w₁ w w₂ proper made_of l p
 
 pub dogleg_proper : (n : ℕ) (radius : Float) (g H : List Float) → Proper n (dogleg n radius g H)
@@ -112,11 +111,11 @@ module _ (n : ℕ) (tau : Float) (w w' : List Float) where
 
 -- Newton's point, where the elimination left R and said f
 module _ (n : ℕ) (g H : List Float) (f : Bool) (R : Rows) (e : found f R ≡ eliminated n H) where
-  pub no_newton : (v : List Float) → not f ≡ true → newton_in false v ≡ newton n g H
+  pub no_newton : (v : List Float) → f ≡ false → newton_in false v ≡ newton n g H
   unfolding newton newton_in
   no_newton v h = rw (← found_none f R (eliminated n H) e h)
 
-  pub newtons : (w w₁ w₂ : List Float) → not f ≡ false → Puts w n 0 (inverse_times n R g) w₁ → Puts w₁ n 0 (each n (Times (neg one)) (slot w₁ n 0) (slot w₁ n 0)) w₂
+  pub newtons : (w w₁ w₂ : List Float) → f ≡ true → Puts w n 0 (inverse_times n R g) w₁ → Puts w₁ n 0 (each n (Times (neg one)) (slot w₁ n 0) (slot w₁ n 0)) w₂
       → newton_in true (slot w₂ n 0) ≡ newton n g H
   unfolding newton newton_in
   newtons w w₁ w₂ h p q =
@@ -149,11 +148,11 @@ module _ (n : ℕ) (radius x : Float) (g H w : List Float) (e : x ≡ norm (slot
 
 -- `lay`, where the code has pb
 module _ (n : ℕ) (radius : Float) (g H : List Float) (f : Bool) (pb w : List Float) (e : newton_in f pb ≡ newton n g H) where
-  pub dogleg_none : (len : ℕ) (w' : List Float) → not f ≡ true → len ≡ length w → w' ≡ zeros len → Laid (dogleg n radius g H) (Refused Pivot) w w'
+  pub dogleg_none : (len : ℕ) (w' : List Float) → f ≡ false → len ≡ length w → w' ≡ zeros len → Laid (dogleg n radius g H) (Refused Pivot) w w'
   unfolding dogleg
   dogleg_none = between_none dogleg_step n radius g H f pb w e
 
-  pub dogleg_laid : (w₁ w₂ : List Float) (r : Stepped) → not f ≡ false → slot w₁ n 0 ≡ dogleg_step n radius pb (unconstrained n g H) → length w₁ ≡ length w
+  pub dogleg_laid : (w₁ w₂ : List Float) (r : Stepped) → f ≡ true → slot w₁ n 0 ≡ dogleg_step n radius pb (unconstrained n g H) → length w₁ ≡ length w
       → Laid (handed_out (made 0 (slot w₁ n 0))) r w₁ w₂ → Laid (dogleg n radius g H) r w w₂
   unfolding dogleg
   dogleg_laid w₁ w₂ r = between_laid dogleg_step n radius g H f pb w e w₁ w₂ r (dogleg_proper n radius g H)

@@ -1,6 +1,6 @@
 -- How the inverse ends, over the values. Assumes nothing.
 use mathlib.Core.Path.{◌≡◌, refl, ◌∙◌, ap}
-use mathlib.Core.Bool.{Bool, true, false, not}
+use mathlib.Core.Bool.{Bool, true, false}
 use mathlib.Core.List.{List, [], ◌∷◌}
 use Prim.Native.Nat.{ℕ, ◌*◌}
 use lib.Dec.{eqb}
@@ -48,10 +48,10 @@ module _ (n : ℕ) (H out w : List Float) where
     bad_entry b = rw (a, b) (record { wrote = record { says = refl; leaves = refl }; clears = refl })
 
     module _ (b : all_finite H ≡ true) (r : Bool) (R : Rows) (len : ℕ) (w' : List Float) (e : found r R ≡ eliminated n H) (l : len ≡ length w) (z : w' ≡ zeros len) where
-      pub bad_pivot : not r ≡ true → Ended (inverse_answer n H out w) (Refused Pivot) out out w w'
+      pub bad_pivot : r ≡ false → Ended (inverse_answer n H out w) (Refused Pivot) out out w w'
       unfolding inverse_answer
       bad_pivot h = rw (a, b, ← found_none r R (eliminated n H) e h) (record { wrote = record { says = refl; leaves = refl }; clears = z ∙ ap zeros l })
 
-      pub inverted : (out' : List Float) → not r ≡ false → out' ≡ flat n (right_row n R) → Ended (inverse_answer n H out w) Written out out' w w'
+      pub inverted : (out' : List Float) → r ≡ true → out' ≡ flat n (right_row n R) → Ended (inverse_answer n H out w) Written out out' w w'
       unfolding inverse_answer
       inverted out' h f = rw (a, b, ← found_rows r R (eliminated n H) e h) (record { wrote = record { says = ap given f; leaves = f }; clears = z ∙ ap zeros l })

@@ -219,7 +219,10 @@ module _ (w w₁ g H : List Float) (n : ℕ) (radius small rtr dhd : Float) (o :
 
   pub no_curvature : le dhd nought ≡ true → o ≡ curved n radius g H (slot w₁ n 0) (slot w₁ n 2) → o ≡ pass n radius small g H (state_in w n rtr)
   unfolding pass
-  no_curvature t f = f ∙ rw (a 0, a 2, ← is_dhd, t)
+  no_curvature t f =
+      let p : slot w₁ n 0 ≡ slot w n 0 = a 0 in
+      let d : slot w₁ n 2 ≡ slot w n 2 = a 2 in
+      f ∙ ap (λ (v : List Float). curved n radius g H v (slot w₁ n 2)) p ∙ ap (curved n radius g H (slot w n 0)) d ∙ rw (← is_dhd, t)
 
   pub curvature : le dhd nought ≡ false → o ≡ straight n radius small (state_in w₁ n rtr) (slot w₁ n 3) (rtr ⊘ dhd) → o ≡ pass n radius small g H (state_in w n rtr)
   unfolding pass

@@ -1,6 +1,6 @@
 -- Laws of the rows in a scratch, and of the elimination. Assumes nothing.
 use mathlib.Core.Path.{◌≡◌, refl, sym, ◌∙◌, ap, fun_ext}
-use mathlib.Core.Bool.{Bool, true, false, cond, not}
+use mathlib.Core.Bool.{Bool, true, false, cond}
 use mathlib.Core.List.{List, [], ◌++◌}
 use mathlib.Core.Logic.{dite}
 use Prim.Native.Nat.{ℕ, zero, suc, ◌+◌, ◌*◌, ◌-◌, ◌<◌, ◌≤◌}
@@ -214,12 +214,12 @@ still_apart w w₀ n j i e inv s = s ∙ e ∙ sym (ap (λ (S : Rows). S j) inv 
 
 -- ---- what a flag that the code tests says of the rows that were left
 
-pub found_none : (r : Bool) (R : Rows) (o : Answer Rows) → found r R ≡ o → not r ≡ true → refused Pivot ≡ o
+pub found_none : (r : Bool) (R : Rows) (o : Answer Rows) → found r R ≡ o → r ≡ false → refused Pivot ≡ o
 unfolding found
 found_none true R o e h = cc
 found_none false R o e h = e
 
-pub found_rows : (r : Bool) (R : Rows) (o : Answer Rows) → found r R ≡ o → not r ≡ false → given R ≡ o
+pub found_rows : (r : Bool) (R : Rows) (o : Answer Rows) → found r R ≡ o → r ≡ true → given R ≡ o
 unfolding found
 found_rows true R o e h = e
 found_rows false R o e h = cc
@@ -243,11 +243,11 @@ module _ (bound : Float) (n j : ℕ) (R : Rows) (all : Answer Rows) (l : j < n) 
       let more : n - j ≡ suc (n - (j + 1)) = omega arith in
       rw e (rw (add-one j) (rw (more, add-one j) at inv))
 
-  pub columns_stop : (S : Rows) (r : Bool) → found r S ≡ column bound n R j → not r ≡ true → found false S ≡ all
+  pub columns_stop : (S : Rows) (r : Bool) → found r S ≡ column bound n R j → r ≡ false → found false S ≡ all
   unfolding found
   columns_stop S r e h = turn (refused Pivot) (found_none r S (column bound n R j) e h)
 
-  pub columns_go : (S : Rows) (r : Bool) → found r S ≡ column bound n R j → not r ≡ false → columns bound n (n - (j + 1)) (j + 1) S ≡ all
+  pub columns_go : (S : Rows) (r : Bool) → found r S ≡ column bound n R j → r ≡ true → columns bound n (n - (j + 1)) (j + 1) S ≡ all
   columns_go S r e h = turn (given S) (found_rows r S (column bound n R j) e h)
 
 pub columns_end : (bound : Float) (n j : ℕ) (R : Rows) (all : Answer Rows) → n ≤ j → columns bound n (n - j) j R ≡ all → found true R ≡ all

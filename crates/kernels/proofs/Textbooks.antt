@@ -1,11 +1,10 @@
 -- Laws of the textbook's dogleg. Assumes nothing.
 use mathlib.Core.Path.{◌≡◌, sym, ◌∙◌, ap, subst}
-use mathlib.Core.Bool.{Bool, true, false, cond, not}
+use mathlib.Core.Bool.{Bool, true, false, cond}
 use mathlib.Core.List.{List}
 use Prim.Native.Nat.{ℕ}
 use lib.ListN.{length}
 use lib.Ieee.{Float, lt, le}
-use borrow.Author.Tests.{not-true, not-false}
 use Rattle.float.specs.Numbers.{◌⊕◌, ◌⊖◌, ◌⊗◌, ◌⊘◌, square}
 use Rattle.float.specs.Constants.{nought}
 use Rattle.root.specs.Root.{root}
@@ -73,11 +72,11 @@ module _ (n : ℕ) (radius curvature : Float) (g H w w' : List Float) (r : Stepp
   unfolding textbook_dogleg
   by_curvature b t h = subst (λ (x : Bool). Laid (cond x (between textbook_step n radius g H) (cauchy_point n radius g H)) r w w') (sym t ∙ ap (lt nought) e) h
 
-  pub as_cauchys : not (lt nought curvature) ≡ true → Laid (cauchy_point n radius g H) r w w' → Laid (textbook_dogleg n radius g H) r w w'
-  as_cauchys t h = by_curvature false (not-true (lt nought curvature) t) h
+  pub as_cauchys : lt nought curvature ≡ false → Laid (cauchy_point n radius g H) r w w' → Laid (textbook_dogleg n radius g H) r w w'
+  as_cauchys t h = by_curvature false t h
 
-  pub by_legs : not (lt nought curvature) ≡ false → Laid (between textbook_step n radius g H) r w w' → Laid (textbook_dogleg n radius g H) r w w'
-  by_legs t h = by_curvature true (not-false (lt nought curvature) t) h
+  pub by_legs : lt nought curvature ≡ true → Laid (between textbook_step n radius g H) r w w' → Laid (textbook_dogleg n radius g H) r w w'
+  by_legs t h = by_curvature true t h
 
 -- the step, where ‖pb‖ is x
 module _ (n : ℕ) (radius x : Float) (g H pb : List Float) (e : x ≡ norm pb) where

@@ -12,7 +12,7 @@ use vectors::refusal::{Refusal, Verdict};
 
 // Which kernel, and what it is told beside the radius and its lists: epsilon and the limit are Steihaug's, and of the two
 // doglegs 1 is the ported one, 2 the textbook's.
-#[derive(Drop)]
+#[derive(Clone, Copy)]
 pub struct Choice {
     pub kernel: u64,
     pub epsilon: f64,

@@ -52,7 +52,7 @@ fn bent(n: usize, w: &mut [f64], tau: f64)
 }
 
 // c, k and u.
-#[derive(Drop)]
+#[derive(Clone, Copy)]
 pub struct Measures {
     pub c: f64,
     pub k: f64,

@@ -12,7 +12,7 @@ use vectors::refusal::{Refusal, Verdict};
 use vectors::{refusal, vector};
 
 // A step that was made in so many passes, with its norm; or why there is none.
-#[derive(Drop)]
+#[derive(Clone, Copy)]
 pub enum Stepped {
     In(u64, f64),
     Refused(Refusal),

@@ -19,21 +19,21 @@ use vectors::vector;
 use vectors::vector::Number;
 
 // The roots, in document 01's order.
-#[derive(Drop)]
+#[derive(Clone, Copy)]
 pub enum Roots {
     Two(f64, f64),
     Three(f64, f64, f64),
 }
 
 // A root, and the model at p + d·tau.
-#[derive(Drop)]
+#[derive(Clone, Copy)]
 pub struct Valued {
     pub tau: f64,
     pub model: f64,
 }
 
 // How a pass ended: with p + d·tau, with q, without a usable root, or on to the next with r·r.
-#[derive(Drop)]
+#[derive(Clone, Copy)]
 pub enum Turn {
     Boundary,
     Inside,
@@ -43,7 +43,7 @@ pub enum Turn {
 
 // Where the passes ended, and how many had begun: at the limit with p, in slot 0; in a pass with p + d·tau,
 // (a) or (b), or with q, (c), in slot 6; or without a usable root.
-#[derive(Drop)]
+#[derive(Clone, Copy)]
 pub enum Exit {
     Limit(u64),
     Boundary(u64),

@@ -8,7 +8,7 @@ ghost use Rattle.kernels.specs.Workspace as Workspace;
 use vectors::vector;
 
 // x; x·a; x + y·a; x·(−1) + y·a; x − y; x / a; x − a·y.
-#[derive(Drop)]
+#[derive(Clone, Copy)]
 pub enum Op {
     Same,
     Times(f64),

@@ -8,7 +8,7 @@ use vectors::refusal::Outcome;
 use vectors::vector::Number;
 
 // Where the next call is read and its line written, or that there is none.
-#[derive(Drop)]
+#[derive(Clone, Copy)]
 pub(crate) struct Turn {
     pub(crate) input: Input,
     pub(crate) output: Output,

@@ -4,7 +4,7 @@ use stream::{Filled, Input, Word};
 
 // What was read last, a word or how many numbers; the call's n, where it was read; the place of the next; and whether one
 // was bad.
-#[derive(Drop)]
+#[derive(Clone, Copy)]
 pub(crate) struct Got {
     pub(crate) word: u64,
     pub(crate) n: usize,
@@ -83,7 +83,7 @@ pub fn sized(room: &mut [u8], before: Got, out: &mut [f64]) -> Got {
 }
 
 // How many numbers a list has, and what was read behind it.
-#[derive(Drop)]
+#[derive(Clone, Copy)]
 pub(crate) struct Two {
     pub(crate) first: u64,
     pub(crate) second: Got,
@@ -100,7 +100,7 @@ pub fn sized_two(room: &mut [u8], before: Got, a: &mut [f64], b: &mut [f64]) -> 
 }
 
 // The same of two lists.
-#[derive(Drop)]
+#[derive(Clone, Copy)]
 pub(crate) struct Three {
     pub(crate) first: u64,
     pub(crate) second: u64,

@@ -4,7 +4,7 @@ use crate::lists::Got;
 use vectors::vector;
 use vectors::vector::Number;
 
-#[derive(Drop)]
+#[derive(Clone, Copy)]
 pub(crate) struct Found {
     pub(crate) number: Number,
     pub(crate) next: Got,

@@ -24,7 +24,7 @@ use vectors::vector;
 
 // What a session that is asked for a step lends of itself: its kernel, the most hidden trials in a row that it takes, its state, and
 // whether refusal 2 finds nothing in it.
-#[derive(Drop)]
+#[derive(Clone, Copy)]
 pub struct Asked {
     pub choice: Choice,
     pub allowance: u64,
@@ -33,7 +33,7 @@ pub struct Asked {
 }
 
 // A step p: its passes, p·g, p·H·p and ‖p‖; or why there is none.
-#[derive(Drop)]
+#[derive(Clone, Copy)]
 pub enum Offered {
     Refused(Refusal),
     Step(u64, f64, f64, f64),

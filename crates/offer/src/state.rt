@@ -7,7 +7,7 @@ use vectors::refusal::Refusal;
 
 // Awaiting a cost, a session holds what its step was promised on: the model value, or SR1's predicted fall, and the step norm.
 // Only a TrustRegion session comes to await derivatives.
-#[derive(Drop)]
+#[derive(Clone, Copy)]
 pub enum Phase {
     Ready,
     AwaitingCost(f64, f64),
@@ -15,7 +15,7 @@ pub enum Phase {
 }
 
 // `count` is how many trials in a row were hidden: answered with a NaN.
-#[derive(Drop)]
+#[derive(Clone, Copy)]
 pub struct State {
     pub radius: f64,
     pub cost: f64,
@@ -25,7 +25,7 @@ pub struct State {
 
 // What a call says: the passes of a proposal, the ratio of a verdict. Only SR1TrustRegion says that it is done, only TrustRegion
 // that derivatives were taken.
-#[derive(Drop)]
+#[derive(Clone, Copy)]
 pub enum Outcome {
     Refused(Refusal),
     Done,

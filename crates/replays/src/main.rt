@@ -7,7 +7,7 @@ use fit::Manner;
 use stream::{Input, Output, Word};
 
 // The words and the page after a script that others may follow, or the page after the last.
-#[derive(Drop)]
+#[derive(Clone, Copy)]
 enum Turn {
     Next(Input, Output),
     Last(Output),

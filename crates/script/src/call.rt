@@ -9,7 +9,7 @@ use offer::state::Phase;
 
 // The lists that come with an answer stand beside it. A change puts a radius, a cost and a phase into the session, a count this count.
 // Words that make no call are odd.
-#[derive(Drop)]
+#[derive(Clone, Copy)]
 pub enum Call {
     Propose(usize),
     Cost(usize, f64),

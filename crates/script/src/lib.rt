@@ -7,7 +7,7 @@ mod places;
 pub mod start;
 
 // What a session is; its calls have their words by it.
-#[derive(Drop)]
+#[derive(Clone, Copy)]
 pub enum Kind {
     TrustRegion,
     Sr1,

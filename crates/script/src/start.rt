@@ -8,7 +8,7 @@ use crate::{Kind, places};
 use codec::Wholes;
 
 // What a start begins a session with: settings and a cost. Words that make no start are odd.
-#[derive(Drop)]
+#[derive(Clone, Copy)]
 pub enum Start {
     TrustRegion(trustregion::settings::Settings, f64),
     Sr1(sr1::settings::Settings, f64),

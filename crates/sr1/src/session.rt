@@ -12,21 +12,21 @@ use offer::state::{Outcome, State};
 use vectors::refusal;
 use vectors::refusal::Refusal;
 
-#[derive(Drop)]
+#[derive(Clone, Copy)]
 pub struct Session {
     pub settings: Settings,
     pub state: State,
 }
 
 // What a start comes to: a refusal is its number only.
-#[derive(Drop)]
+#[derive(Clone, Copy)]
 pub enum Start {
     Refused(Refusal),
     Started(Session),
 }
 
 // What any other call returns.
-#[derive(Drop)]
+#[derive(Clone, Copy)]
 pub struct After {
     pub session: Session,
     pub outcome: Outcome,

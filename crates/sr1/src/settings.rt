@@ -7,7 +7,7 @@ use kernels::{choice, kernel};
 use offer::state;
 use vectors::refusal;
 
-#[derive(Drop)]
+#[derive(Clone, Copy)]
 pub struct Settings {
     pub choice: Choice,
     pub radius: f64,

@@ -18,14 +18,14 @@ use script::call::Call;
 use script::start::Start;
 use vectors::refusal::Refusal;
 
-#[derive(Drop)]
+#[derive(Clone, Copy)]
 pub enum Session {
     TrustRegion(trustregion::session::Session),
     Sr1(sr1::session::Session),
 }
 
 // What a start comes to. An odd one has no words that make it.
-#[derive(Drop)]
+#[derive(Clone, Copy)]
 pub enum Begun {
     Session(Session),
     Refused(Refusal),
@@ -33,7 +33,7 @@ pub enum Begun {
 }
 
 // A session after a call, and what the call came to.
-#[derive(Drop)]
+#[derive(Clone, Copy)]
 pub struct After {
     pub session: Session,
     pub event: Event,

@@ -11,7 +11,7 @@ use stream::Output;
 use vectors::refusal::Refusal;
 
 // What comes next: a length, the very end, or bytes that make no word.
-#[derive(Drop)]
+#[derive(Clone, Copy)]
 enum Length {
     Is(u64),
     End,
@@ -20,7 +20,7 @@ enum Length {
 
 // A case of so many bytes, at the front of the room; one that is longer than the room, and so than any
 // that fits its n; the very end; or bytes that make no case.
-#[derive(Drop)]
+#[derive(Clone, Copy)]
 enum Held {
     Case(usize),
     Long,
@@ -29,7 +29,7 @@ enum Held {
 }
 
 // The page after a case that others may follow, or after the last.
-#[derive(Drop)]
+#[derive(Clone, Copy)]
 enum Turn {
     Next(Output),
     Last(Output),

@@ -6,14 +6,14 @@ ghost use Rattle.stream.specs.Input.{held as Input·held};
 use libc::STDIN_FILENO;
 
 // The bytes of a room that are still to be read: those from `at` up to `end`.
-#[derive(Drop)]
+#[derive(Clone, Copy)]
 pub struct Input {
     pub at: usize,
     pub end: usize,
 }
 
 // What comes next: a word, with the place after it; the very end; or bytes that make no whole word.
-#[derive(Drop)]
+#[derive(Clone, Copy)]
 pub enum Word {
     Is(u64, Input),
     End,
@@ -21,14 +21,14 @@ pub enum Word {
 }
 
 // The same where a number has to come.
-#[derive(Drop)]
+#[derive(Clone, Copy)]
 pub enum Number {
     Is(f64, Input),
     Missing,
 }
 
 // The same where a list of them has to come.
-#[derive(Drop)]
+#[derive(Clone, Copy)]
 pub enum Filled {
     To(Input),
     Missing,

@@ -8,7 +8,7 @@ ghost use Rattle.stream.specs.Output.{Put, PutWhole};
 use libc::STDOUT_FILENO;
 
 // How far a page is written that has not left yet.
-#[derive(Drop)]
+#[derive(Clone, Copy)]
 pub struct Output {
     pub at: usize,
 }

@@ -3,7 +3,7 @@ ghost use Rattle.std.specs.Prelude.{◌≡◌, ◌&&◌, [], ◌∷◌, ◌*◌,
 ghost use Rattle.vectors.specs.Refusal as Table;
 
 // Document 01's table, in its order, and behind it the refusals of later requests.
-#[derive(Drop)]
+#[derive(Clone, Copy)]
 pub enum Refusal {
     Size,
     Setting,
@@ -17,14 +17,14 @@ pub enum Refusal {
 }
 
 // What a list of checks comes to.
-#[derive(Drop)]
+#[derive(Clone, Copy)]
 pub enum Verdict {
     Passed,
     Failed(Refusal),
 }
 
 // What a call says that writes into what it was lent.
-#[derive(Drop)]
+#[derive(Clone, Copy)]
 pub enum Outcome {
     Written,
     Refused(Refusal),

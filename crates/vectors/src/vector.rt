@@ -8,7 +8,7 @@ use crate::refusal;
 use crate::refusal::{Outcome, Refusal};
 
 // A number, or why there is none.
-#[derive(Drop)]
+#[derive(Clone, Copy)]
 pub enum Number {
     Is(f64),
     Refused(Refusal),

@@ -13,4 +13,4 @@ cost_taken_spec =
     (λ c κs. search rules)
     (λ c. rw (sym c.before.finite.ensures ∙ c.if1.true))
     (λ c κs. search rules)
-    (λ c. let cost = c.before in rw (sym cost.before.finite.ensures ∙ cost.if1.false) c.is_nan_lem.ensures))
+    (λ c. let cost = c.before in rw (sym cost.before.finite.ensures ∙ cost.if1.false) c.is_nan.ensures))

@@ -8,7 +8,7 @@ returns : tie.Need-returns
 returns c =
     let number = c.before.before.before.before.before.before in
     let word = number.before.before.before in
-    puts_append (rw (word.word.ensures, word.before.is_nan_lem.ensures) at number.number.ensures) (puts_one c.before.before.put_line_end.ensures)
+    puts_append (rw (word.word.ensures, word.before.is_nan.ensures) at number.number.ensures) (puts_one c.before.before.put_line_end.ensures)
 
 pub verdict_spec : {M : Type 1} → statement M
 verdict_spec =

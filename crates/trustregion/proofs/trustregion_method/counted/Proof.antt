@@ -9,5 +9,5 @@ pub counted_spec : {M : Type 1} → statement M
 counted_spec =
     tie.close
     (tie.spec (λ c κs. search rules) (λ c. omega (arith, c.before.before.requires))
-    (λ c. rw (sym c.before.is_nan_lem.ensures ∙ c.if1.true))
-    (λ c. rw (sym c.before.is_nan_lem.ensures ∙ c.if1.false)))
+    (λ c. rw (sym c.before.is_nan.ensures ∙ c.if1.true))
+    (λ c. rw (sym c.before.is_nan.ensures ∙ c.if1.false)))

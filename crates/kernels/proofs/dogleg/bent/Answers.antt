@@ -1,0 +1,9 @@
+-- `kernels::dogleg::bent` meets its contract. Assumes nothing.
+use Rattle.kernels.proofs.Doglegs.{bent_first, bent_second}
+use Rattle.kernels.proofs.dogleg.bent.Goals as goal
+
+pub returns-then-tau : goal.returns-then-tau
+returns-then-tau c = bent_first _ _ _ _ c.if-tau.true c.each.ensures
+
+pub returns : goal.returns
+returns c = bent_second _ _ _ _ c.if-tau.false c.each-2.ensures
