@@ -1,23 +1,15 @@
 -- `offer::lay_trial` meets its contract. The loop's invariant: the first i numbers of slot 1 are the trial's. Assumes nothing.
 use mathlib.Core.Path.{◌≡◌, subst}
 use mathlib.Core.List.{List}
-use Prim.Native.Nat.{ℕ, ◌+◌, ◌*◌, ◌-◌, ◌<◌}
+use Prim.Native.Nat.{ℕ, ◌+◌, ◌*◌, ◌<◌}
 use native.Mathlib.Omega.{arith}
 use lib.ListN.{set}
 use lib.Ieee.{Float}
 use borrow.Author.Rules.{rules}
-use Rattle.float.specs.Numbers.{◌⊕◌}
 use Rattle.vectors.specs.Vector.{at, plus}
 use Rattle.vectors.specs.Slots.{slot}
 use Rattle.vectors.proofs.Slots.{Writing, writing_none, writing_read, writing_more, writing_done}
-use Rattle.offer.proofs.lay_trial.Statement.{statement}
-use Rattle.offer.proofs.lay_trial.Tie as tie
-
-abbrev invariant-loop : tie.invariant-loop
-invariant-loop n point w₀ i₀ w i = Writing w₀ n 1 (λ j. at (slot w₀ n 0) j ⊕ at point j) w i
-
-abbrev decreases-loop : tie.decreases-loop
-decreases-loop n point w₀ i₀ w i = n - i
+use Rattle.offer.proofs.lay_trial.Goals as goal
 
 -- slot 1 starts at n, slot 0 at 0
 module _ {old w : List Float} {n : ℕ} {f : ℕ → Float} {i : ℕ} (p : Writing old n 1 f w i) (h : i < n) where
@@ -27,20 +19,16 @@ module _ {old w : List Float} {n : ℕ} {f : ℕ → Float} {i : ℕ} (p : Writi
   first_read : at w i ≡ at (slot old n 0) i
   first_read = let none : 0 * n + i ≡ i = omega arith in subst (λ (k : ℕ). at w k ≡ at (slot old n 0) i) none (writing_read p 0 h)
 
-loop-again : tie.Need-loop-preserved invariant-loop decreases-loop
-loop-again c =
-    let inv = c.before.before.before.loop.invariant in
-    let h = c.before.before.loop-test.true in
+pub loop-i-init : goal.loop-i-init
+unfolding plus
+loop-i-init c = writing_none (search rules)
+
+pub loop-i-preserved : goal.loop-i-preserved
+loop-i-preserved c =
+    let inv = c.loop-i.invariant in
+    let h = c.loop-i-test.true in
     beside_more inv h (rw (first_read inv h))
 
-pub lay_trial_spec : {M : Type 1} → statement M
+pub returns : goal.returns
 unfolding plus
-lay_trial_spec =
-    tie.close
-    (tie.spec invariant-loop decreases-loop
-    (λ c. writing_none (search rules))
-    (λ c. search rules) (λ c. search rules) (λ c. search rules) (λ c. search rules) (λ c. search rules) (λ c. search rules) (λ c. search rules)
-    (λ c. search rules) (λ c. search rules)
-    loop-again
-    (λ c. search rules)
-    (λ c. writing_done c.before.loop.invariant (search rules)))
+returns c = writing_done c.loop-i.invariant (search rules)
