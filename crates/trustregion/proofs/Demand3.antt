@@ -24,7 +24,7 @@ use Rattle.trustregion.proofs.Alike.{Alike, alike_refl}
 use Rattle.trustregion.proofs.Replay.{strike_replays}
 use Rattle.trustregion.proofs.Trials.{Clear, strike_seen, thinned_trials}
 use Rattle.trustregion.proofs.Fair.{run_sound}
-use Rattle.trustregion.proofs.Hidden.{too_hidden}
+use Rattle.trustregion.proofs.HiddenTrials.{too_hidden}
 
 -- each answer is a step of n numbers, or a refusal from 6 on
 abbrev pub All_proper : (Settings → Kernel) → Type 0

@@ -3,10 +3,9 @@ pub mod Alike
 pub mod Replay
 pub mod Trials
 pub mod Fair
-pub mod Hidden
+pub mod HiddenTrials
 pub mod Demand3
 pub mod Cases
 pub mod Counts
 pub mod Calls
 pub mod Ends
-pub mod Kind
