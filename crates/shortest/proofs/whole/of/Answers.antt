@@ -1,0 +1,8 @@
+-- `shortest::whole::of` meets its contract. Assumes nothing.
+use native.Mathlib.Omega.{arith}
+use Rattle.shortest.specs.Whole.{value}
+use Rattle.shortest.proofs.whole.of.Goals as goal
+
+pub returns : goal.returns
+unfolding value
+returns c = omega arith
