@@ -141,6 +141,7 @@ fn put_positional(
 }
 
 // Scientific where the number is 1e16 or more, or below 1e-5.
+#[tactic(auto, unfolding(crate::specs::Text::laid))]
 fn put_laid(
     text: &mut [u8],
     at: usize,
