@@ -4,4 +4,3 @@ pub mod Hessians
 pub mod Skips
 pub mod Zeros
 pub mod Ends
-pub mod Kind

@@ -1,0 +1,11 @@
+use Prim.Native.Nat.{◌-◌, ◌≤◌}
+use Rattle.vectors.specs.Vector.{all_finite}
+use Rattle.sr1.specs.Session.{gained_row}
+use Rattle.sr1.proofs.Hessians.{Below}
+use Rattle.sr1.proofs.sr1_trustregion.rows_finite.Given as goal
+
+abbrev pub invariant-loop-i : goal.invariant-loop-i
+invariant-loop-i l = (l.i ≤ l.n) × Below (λ k. all_finite (gained_row l.n l.hessian l.z l.share k)) l.i
+
+abbrev pub decreases-loop-i : goal.decreases-loop-i
+decreases-loop-i l = l.n - l.i
