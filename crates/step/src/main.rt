@@ -1,7 +1,7 @@
 // Reads one case from standard input and writes its step, or why there is none.
 #![tactic(auto)]
 
-use libc::STDIN_FILENO;
+use stream::STDIN_FILENO;
 
 // No case has more than 33,320 bytes, so a room that is full holds too many, whatever comes after.
 fn main() {

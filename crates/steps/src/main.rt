@@ -6,7 +6,7 @@
 ghost use Rattle.std.specs.Prelude.{◌≤◌};
 
 use case::Said;
-use libc::STDIN_FILENO;
+use stream::STDIN_FILENO;
 use stream::Output;
 use vectors::refusal::Refusal;
 

@@ -3,7 +3,8 @@ ghost use Rattle.std.specs.Prelude.{◌≡◌};
 ghost use Rattle.stream.specs.Input.{Next, NextNumber, Fills};
 ghost use Rattle.stream.specs.Input.{held as Input·held};
 
-use libc::STDIN_FILENO;
+// Where the system has standard input.
+pub const STDIN_FILENO: i32 = 0;
 
 // The bytes of a room that are still to be read: those from `at` up to `end`.
 #[derive(Clone, Copy)]

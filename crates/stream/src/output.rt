@@ -5,7 +5,8 @@ ghost use Rattle.std.specs.Float.Ieee.{to_bits};
 ghost use Rattle.words.specs.Words.{hex_of};
 ghost use Rattle.stream.specs.Output.{Put, PutWhole};
 
-use libc::STDOUT_FILENO;
+// Where the system has standard output.
+const STDOUT_FILENO: i32 = 1;
 
 // How far a page is written that has not left yet.
 #[derive(Clone, Copy)]
