@@ -1,0 +1,7 @@
+-- `report::lines::standing` meets its contract. Assumes nothing.
+use Rattle.stream.proofs.Pieces.{puts_append}
+use Rattle.report.proofs.lines.standing.Goals as goal
+
+pub returns : goal.returns
+returns c =
+    puts_append (puts_append c.phase-phase.ensures c.put_named-radius.ensures) c.put_named.ensures

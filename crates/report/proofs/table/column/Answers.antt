@@ -1,0 +1,10 @@
+-- `report::table::column` meets its contract. Assumes nothing.
+use Rattle.std.proofs.Common.{◌∙◌}
+use Rattle.stream.proofs.Pieces.{puts_one}
+use Rattle.report.proofs.Columns.{in_column}
+use Rattle.report.proofs.table.column.Goals as goal
+
+pub returns : goal.returns
+returns c =
+    let text = c.write.ensures.out_after ∙ in_column _ in
+    puts_one (rw text at c.put_text.ensures)

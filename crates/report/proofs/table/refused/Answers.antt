@@ -1,0 +1,8 @@
+-- `report::table::refused` meets its contract. Assumes nothing.
+use Rattle.stream.specs.Pieces.{one}
+use Rattle.stream.proofs.Pieces.{puts_one}
+use Rattle.report.proofs.table.refused.Goals as goal
+
+pub returns : goal.returns
+returns c =
+    one c.put_text-said.ensures (one (rw c.number.ensures at c.put_whole-put.ensures) (one c.put_text-closed.ensures (puts_one c.reason.ensures)))
