@@ -4,7 +4,7 @@ use Prim.Native.Nat.{ℕ, suc}
 use mathlib.Core.List.{[], ◌∷◌, List}
 use mathlib.Core.Option.{none, some}
 use seplogic.Ra.Ura.{Ura}
-use mir.Syntax.{Name, Fn, Home, Local, local, named, Body}
+use mir.Syntax.{Callee, Fn, Home, Local, local, named, Body}
 use mir.Val.{vptr}
 use base.Logic.{ent}
 use base.Fml.{Lft, Fml, flft, fsep}
@@ -77,7 +77,7 @@ module _ (J : Kind) (xs : List Other) where
     pub last_is : (κ : Lft) (κs : Lfts n) (a : Denots (types_at fs (κ, κs))) (ws : Fins κs gs (all yes gs) (arg κ κs a)) → lasts_of κs gs (all yes gs) (arg κ κs a) ws ≡ lasts_of (κ, κs) fs (all yes fs) a (fins κ κs a ws)
 
   -- the function fn has the locals and the body of a thin call of f. Each equation is `refl`
-  pub record Shape (fn : Fn) (f : Name) (ho : Home) (ls : List Local) : Type 2 where
+  pub record Shape (fn : Fn) (f : Callee) (ho : Home) (ls : List Local) : Type 2 where
     pub locals : fn.locals ≡ local (τO J) ho ∷ ls
     pub body : (κs : Lfts (suc n)) (a : Denots (types_at fs κs)) → fn.body ≡ body_of J f (passed_at κs a)
     pub takes : (κs : Lfts (suc n)) (a : Denots (types_at fs κs)) (b o : ℕ) (bs : Blocks ls) → AllFit (passed_at κs a) → AllTyped (envOf ls bs) (vptr b o ∷ flat (types_at fs κs) (vals_at κs a))
@@ -93,7 +93,7 @@ module _ (J : Kind) (xs : List Other) where
         ((cf (κ, κs) (x, a)).ensures g (J.outcome r) (at_exit thin_call (κ, κs) (x, a) (J.session r, same.fins κ κs a ws.1)))
 
   module _ (same : Same) {M : Type 1} {𝓤 : Ura M} (𝓛 : Logic 𝓤) (𝓣 : Tables 𝓤 𝓛.H) (cf : Clauses 𝓤 thin_call) (cg : Clauses 𝓤 value_call) (agrees : Agrees same 𝓤 cf cg)
-      (fn : Fn) (f : Name) (ho : Home) (ls : List Local) (shape : Shape fn f ho ls) (known : Triple 𝓤 (𝓣.C f) (triple_of 𝓛 value_call.signature (closing 𝓛 value_call cg))) where
+      (fn : Fn) (f : Callee) (ho : Home) (ls : List Local) (shape : Shape fn f ho ls) (known : Triple 𝓤 (𝓣.C f) (triple_of 𝓛 value_call.signature (closing 𝓛 value_call cg))) where
     -- the function is entered and its locals are allocated; `walks` does the body, `exits` the rest
     open 𝓛 use {H}
 
@@ -114,7 +114,7 @@ module _ (J : Kind) (xs : List Other) where
         (λ r ws is. rewrite ! 4 (λ (P : Fml). ‵ P) (same.last_is κ κs a ws) refl $ by ! (exits J n fs (all yes fs) 𝓛 cf κ κs q qs b o γ h a vs g r (same.fins κ κs a ws) is)))
 
   -- the function fn, whose key is k, is a thin call of f, whose contract is met: so is fn's
-  pub thin_spec : (same : Same) (fn : Fn) (k f : Name) {ho : Home} {ls : List Local} → Shape fn f ho ls → {M : Type 1} {𝓤 : Ura M} (𝓛 : Logic 𝓤) (𝓜 : Model 𝓤 𝓛.H) (𝓡 : Running 𝓤 𝓛.H 𝓜)
+  pub thin_spec : (same : Same) (fn : Fn) (k f : Callee) {ho : Home} {ls : List Local} → Shape fn f ho ls → {M : Type 1} {𝓤 : Ura M} (𝓛 : Logic 𝓤) (𝓜 : Model 𝓤 𝓛.H) (𝓡 : Running 𝓤 𝓛.H 𝓜)
       (cf : Clauses 𝓤 thin_call) (cg : Clauses 𝓤 value_call) → Agrees same 𝓤 cf cg
       → (env : Routines) → Closed 𝓤 𝓛.H (tables 𝓤 𝓛.H 𝓜 𝓡 env).C (tables 𝓤 𝓛.H 𝓜 𝓡 env).Λ k fn
       → (r : Routine) → env f ≡ r → Meets 𝓛 value_call.signature (𝓡.run r) (closing 𝓛 value_call cg)

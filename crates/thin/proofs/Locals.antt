@@ -7,7 +7,7 @@ use mathlib.Core.Bool.{Bool, true, false}
 use Prim.Native.Nat.{ℕ, zero, suc}
 use mathlib.Core.List.{[], ◌∷◌, List}
 use seplogic.Ra.Ura.{Ura}
-use seplogic.Ra.TreeShare.{full_share}
+use base.Fraction.{full_share}
 use lib.Dec.{T}
 use mir.Syntax.{Ty, Step as PStep, Local, local, place, copy, return}
 use mir.Val.{Val, WT, has_ty}
@@ -174,10 +174,10 @@ module _ {M : Type 1} {𝓤 : Ura M} {𝓛 : Logic 𝓤} {K : Type 0} where
   pub allocated : K → {Γ : List (Item 𝓤)} (ls : List Local) {Kt : Env 𝓤 H → Goal 𝓤 H} → ((bs : Blocks ls) → Seq K 𝓛 (‵ (Locals (envOf ls bs) []) ∷ Γ) (Kt (envOf ls bs))) → Seq K 𝓛 Γ (allocs ls Kt)
   unfolding Locals
   allocated t {Γ} [] {Kt} k = alloc0 t $ use0 𝓛 (‵ (Locals [] [])) (id⊢ 𝓤 (emp 𝓤)) $ k tt
-  allocated t {Γ} (local τ h ∷ ls) {Kt} k = alloc1 t (λ b. allocated t ls {Kt = λ E. Kt ((τ, b) ∷ E)} (λ bs. move t (1 ∷ 2 ∷ []) $ fjoin t $ fjoin t $ k (b, bs)))
+  allocated t {Γ} (local τ h ∷ ls) {Kt} k = alloc1 t (λ b. allocated t {Γ = ‵ (froom τ b zero) ∷ ‵ (fdies τ b) ∷ Γ} ls {Kt = λ E. Kt ((τ, b) ∷ E)} (λ bs. move t (1 ∷ 2 ∷ []) $ fjoin t $ fjoin t $ k (b, bs)))
 
   -- its arguments are stored, in the locals after the result's
-  passed_all : K → {Γ : List (Item 𝓤)} {g : Goal 𝓤 H} (E : List (Ty × ℕ)) (vs : List Val) → AllTyped E vs → Seq K 𝓛 (‵ (Locals E (somes vs)) ∷ Γ) g → Seq K 𝓛 (‵ (Locals E []) ∷ Γ) (passes E vs g)
+  passed_all : K → (E : List (Ty × ℕ)) (vs : List Val) {Γ : List (Item 𝓤)} {g : Goal 𝓤 H} → AllTyped E vs → Seq K 𝓛 (‵ (Locals E (somes vs)) ∷ Γ) g → Seq K 𝓛 (‵ (Locals E []) ∷ Γ) (passes E vs g)
   unfolding Locals
   passed_all t E [] ok s = pass0 t $ s
   passed_all t [] (v ∷ vs) ok s = absurd ok

@@ -170,6 +170,12 @@ operands i j [] = []
 operands i j (as_is τ v ∷ xs) = copy (place i []) ∷ operands (suc i) j xs
 operands i j (lent ℓ p c ∷ xs) = copy (place (suc j) []) ∷ operands (suc i) (suc (suc j)) xs
 
+-- the first local after those
+abbrev pub lent_to : ℕ → List Passed → ℕ
+lent_to j [] = j
+lent_to j (as_is τ v ∷ xs) = lent_to j xs
+lent_to j (lent ℓ p c ∷ xs) = lent_to (suc (suc j)) xs
+
 -- what the locals hold once the pointer of the slice p is made, and once all slices are lent
 abbrev pointed : List (Option Val) → ℕ → ℕ × ℕ → List (Option Val)
 pointed os j p = set os j (some (vptr p.0 p.1))

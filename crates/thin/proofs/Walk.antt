@@ -1,13 +1,13 @@
 -- The walk of a thin call's body, for any kind of session and any other parameters:
 --     let out = work(*s, ..); *s = out.session; out.outcome
--- In MIR local 0 is the outcome and 1 the session's reference. Then come the other parameters, `out`, the session's copy, and what lends the slices again.
+-- In MIR local 0 is the outcome and 1 the session's reference. Then come the other parameters, `out`, the session's copy, what lends the slices again, and the session that came back.
 use mathlib.Core.Path.{◌≡◌, refl, sym, ap}
 use Prim.Native.Nat.{ℕ, suc}
 use mathlib.Core.List.{[], ◌∷◌, List}
 use mathlib.Core.Option.{Option, none, some}
 use seplogic.Ra.Ura.{Ura}
-use seplogic.Ra.TreeShare.{full_share}
-use mir.Syntax.{ty_struct, tnil, tcons, Ty, Name, Opd as Operand, call, Fn, named, place, deref, field, copy, rv_opd, Body, seq, assign, return}
+use base.Fraction.{full_share}
+use mir.Syntax.{ty_struct, tnil, tcons, Ty, Callee, Opd as Operand, call, Fn, named, place, deref, field, copy, rv_opd, Body, seq, assign, return}
 use mir.Val.{Val, vstruct, vcons, vnil, vptr}
 use base.Logic.{SProp, ent, sep, id⊢}
 use base.Fml.{GName, Lft, Share, Fml, flft, fobs, fauth, fbor, fobor, fsep}
@@ -37,7 +37,7 @@ use denote.Triple.Walked.{Stays, stay_ref, walk_of, Goes-ref, ends_at, walked, w
 use denote.Exit.{yes}
 use Rattle.thin.proofs.Locals.{Locals, set, is, see, Here, here_set, within_local, held, made, var, leaves}
 use Rattle.thin.proofs.Kind.{Kind}
-use Rattle.thin.proofs.Others.{Params, spells, all_tell, Passed, vals_of, AllFit, stays_said, said_fit, said_had, said_go, lending, operands, lends, lent_seen, lent_wanted, read_seen, read_wanted, nth_seen, lent_all, read_all, same_values}
+use Rattle.thin.proofs.Others.{Params, spells, all_tell, Passed, vals_of, AllFit, stays_said, said_fit, said_had, said_go, lending, operands, lent_to, lends, lent_seen, lent_wanted, read_seen, read_wanted, nth_seen, lent_all, read_all, same_values}
 
 module _ (J : Kind) where
   -- the three types: the session's, the outcome's, and that of both. Their values, MIR types and machine values
@@ -75,24 +75,26 @@ module _ (J : Kind) where
   both r = vstruct (vcons (val (J.session r)) (vcons (out r) vnil))
 
   -- ---- the body
-  -- what follows the slices' lending, with `out` as local i
-  abbrev ending : ℕ → Name → List Operand → Body
-  ending i f ops = seq (call f (copy (place (suc i) []) ∷ ops) (place i [])) (seq (assign (place 1 (deref τS ∷ [])) (rv_opd (copy (place i (field 0 ∷ []))))) (seq (assign (place 0 []) (rv_opd (copy (place i (field 1 ∷ []))))) return))
+  -- what follows the slices' lending, with `out` as local i and what comes back of the session as local j
+  abbrev ending : ℕ → ℕ → Callee → List Operand → Body
+  ending i j f ops = seq (call f (copy (place (suc i) []) ∷ ops) (place i [])) (seq (assign (place j []) (rv_opd (copy (place i (field 0 ∷ []))))) (seq (assign (place 1 (deref τS ∷ [])) (rv_opd (copy (place j [])))) (seq (assign (place 0 []) (rv_opd (copy (place i (field 1 ∷ []))))) return)))
 
-  abbrev pub body_of : Name → List Passed → Body
+  abbrev pub body_of : Callee → List Passed → Body
   body_of f xs =
       let i = suc (suc (length xs)) in
-      seq (assign (place (suc i) []) (rv_opd (copy (place 1 (deref τS ∷ []))))) (lending 2 (suc (suc i)) xs (ending i f (operands 2 (suc (suc i)) xs)))
+      seq (assign (place (suc i) []) (rv_opd (copy (place 1 (deref τS ∷ []))))) (lending 2 (suc (suc i)) xs (ending i (lent_to (suc (suc i)) xs) f (operands 2 (suc (suc i)) xs)))
 
-  -- what the body asks of the locals, whatever value x `out` takes
+  -- what the body asks of the locals, whatever values x and y `out` and the session that comes back take
   abbrev pub Ready : {M : Type 1} (𝓤 : Ura M) (H : Heap 𝓤) (E : Env 𝓤 H) → List (Option Val) → List Passed → ℕ → ℕ → Session → Type 0
   Ready 𝓤 H E os xs b o h =
       let i = suc (suc (length xs)) in
       let os₁ = set os (suc i) (some (val h)) in
       let os₂ = lends os₁ (suc (suc i)) xs in
+      let j = lent_to (suc (suc i)) xs in
       let s = is (spot_of 𝓤 H E 1).0 (some (vptr b o)) in
-      (x : Option Val)
-      → ((see 𝓤 H E os 1 ∷ see 𝓤 H E os (suc i) ∷ see 𝓤 H E os₂ (suc i) ∷ see 𝓤 H E os₂ i ∷ see 𝓤 H E (set os₂ i x) 1 ∷ see 𝓤 H E (set os₂ i x) 0 ∷ []) ≡ (s ∷ is τS none ∷ is τS (some (val h)) ∷ is τB none ∷ s ∷ is τO none ∷ []))
+      (x y : Option Val)
+      → let os₃ = set (set os₂ i x) j y in
+      ((see 𝓤 H E os 1 ∷ see 𝓤 H E os (suc i) ∷ see 𝓤 H E os₂ (suc i) ∷ see 𝓤 H E os₂ i ∷ see 𝓤 H E (set os₂ i x) j ∷ see 𝓤 H E os₃ 1 ∷ see 𝓤 H E os₃ i ∷ see 𝓤 H E os₃ 0 ∷ []) ≡ (s ∷ is τS none ∷ is τS (some (val h)) ∷ is τB none ∷ is τS none ∷ s ∷ is τB x ∷ is τO none ∷ []))
       × (lent_seen 𝓤 H E os₁ 2 (suc (suc i)) xs ≡ lent_wanted xs) × (read_seen 𝓤 H E os₂ 2 (suc (suc i)) xs ≡ read_wanted xs)
 
   -- ---- what a walk has of the session
@@ -145,34 +147,38 @@ module _ (J : Kind) where
           (r : After) (ws : Fins κs ss ks a) → Is O (J.outcome r) (out r ∷ [])
           → Seq K 𝓛 (returned 𝓤 κ q γ b o (J.session r) (toks 𝓛 n κs qs) (lasts_of κs ss ks a ws) (P r ws) Γ) (prop (Kf (out r)))
 
-      -- the call, `*s = out.session`, `_0 = out.outcome`; the borrow is closed and the function returns
-      ends : {K : Type 0} {Γ : List (Item 𝓤)} → K → {E : Env 𝓤 H} {os : List (Option Val)} {C : Calls 𝓤 H} {Λ : Loops 𝓤 H} {f : Name} {ops : List Operand} {Kf : Val → SProp 𝓤} {κ : Lft} {q : Share} {γ : GName} {i b o : ℕ} {τ : Ty}
+      -- the call, `_j = out.session`, `*s = _j`, `_0 = out.outcome`; the borrow is closed and the function returns
+      ends : {K : Type 0} {Γ : List (Item 𝓤)} → K → {E : Env 𝓤 H} {os : List (Option Val)} {C : Calls 𝓤 H} {Λ : Loops 𝓤 H} {f : Callee} {ops : List Operand} {Kf : Val → SProp 𝓤} {κ : Lft} {q : Share} {γ : GName} {i j b o : ℕ} {τ : Ty}
           → FmC 𝓤 H 𝓛.laws C → Triple 𝓤 (C f) Work → Is S h (val h ∷ [])
           → Opds K 𝓛 (raw (Work.pre asked) ∷ ‵ (Locals E os) ∷ opened 𝓤 κ q γ b o h Γ) E (copy (place (suc i) []) ∷ ops) (Work.args asked)
           → (P : After → Fins κs ss ks a → SProp 𝓤) → ((r : After) (ws : Lasts by_value κs (h, a)) → ent 𝓤 ((c κs (h, a)).ensures g r (at_exit by_value κs (h, a) ws)) (P r ws.1))
-          → Here 𝓤 H E os i τB none → ((x : Option Val) → Here 𝓤 H E (set os i x) 1 τ (some (vptr b o))) → ((x : Option Val) → Here 𝓤 H E (set os i x) 0 τO none)
+          → Here 𝓤 H E os i τB none → ((x : Option Val) → Here 𝓤 H E (set os i x) j τS none)
+          → ((x y : Option Val) → Here 𝓤 H E (set (set os i x) j y) 1 τ (some (vptr b o))) → ((x y : Option Val) → Here 𝓤 H E (set (set os i x) j y) i τB x) → ((x y : Option Val) → Here 𝓤 H E (set (set os i x) j y) 0 τO none)
           → Returned K Γ κ q γ b o P Kf
-          → Seq K 𝓛 (‵ (Locals E os) ∷ opened 𝓤 κ q γ b o h (raw (toks 𝓛 n κs qs) ∷ ‵ (owns (types_at ss κs) a vss) ∷ raw ((c κs (h, a)).requires g) ∷ Γ)) (runs C Λ E (ending i f ops) (at_ret E Kf))
-      ends {K} {Γ} t {E} {os} {i = i} {b = b} {o = o} fm known was ops P tells room me result k =
+          → Seq K 𝓛 (‵ (Locals E os) ∷ opened 𝓤 κ q γ b o h (raw (toks 𝓛 n κs qs) ∷ ‵ (owns (types_at ss κs) a vss) ∷ raw ((c κs (h, a)).requires g) ∷ Γ)) (runs C Λ E (ending i j f ops) (at_ret E Kf))
+      ends {K} {Γ} t {E} {os} {i = i} {j = j} {b = b} {o = o} fm known was ops P tells room next me still result k =
           move t (6 ∷ 7 ∷ 8 ∷ []) $ join t $ use2 𝓛 (raw (Work.pre asked)) (goes_in was) $ calls_at t fm Work known asked ops (λ w.
           use1 𝓛 (later (exists (λ (r : After). (raw (toks 𝓛 n κs qs) ⊛ ‵ (B.own_val r (w ∷ []))) ⊛ raw (ensured 𝓛 by_value c κs (h, a) g r)))) (id⊢ 𝓤 _) $ await t tt $ pick t (λ r.
           split t $ move t (1 ∷ []) $ use1 𝓛 (exists (λ (ws : Lasts by_value κs (h, a)). ‵ (lasts by_value κs (h, a) ws) ⊛ raw ((c κs (h, a)).ensures g r (at_exit by_value κs (h, a) ws)))) (id⊢ 𝓤 _) $ pick t (λ ws.
           split t $ fsplit t $ drop t $ move t (1 ∷ []) $ use1 𝓛 (raw (P r ws.1)) (tells r ws) $ move t (2 ∷ 1 ∷ []) $ split t $ move t (1 ∷ []) $
           peeks t B (Is B) (shows 𝓛 B) r (w ∷ []) (λ is. drop t $
           let o₁ : Option Val = some (both r) in
+          let o₂ : Option Val = some (val (J.session r)) in
           let full = here_set room o₁ in
           -- [the tokens; the last values; what is said of them; the locals; the cell; what a session owns; the open borrow; obs; auth]
           move t (3 ∷ 4 ∷ []) $
           land t (from t (stop t)) (made t i room (J.typed 𝓛 r _ is)) $
           rewrite t 0 (λ (x : Val). ‵ (Locals E (set os i (some x)))) (ap only (J.tells r _ is)) refl $
-          assigns t (of_opd t (load t (within_local t full (fld t refl (stop t))) (look_in t 0 (sub t 0 refl (held t i full))))) (within_local t (me o₁) (hop t (look_in t 0 (held t 1 (me o₁))) (stop t))) (store_raw t 1 refl (J.s.typed 𝓛 (J.session r) _ (J.session_is r _ is))) $
-          assigns t (of_opd t (load t (within_local t full (fld t refl (stop t))) (look_in t 0 (sub t 1 refl (held t i full))))) (from t (stop t)) (made t 0 (result o₁) (J.o.typed 𝓛 (J.outcome r) _ (J.outcome_is r _ is))) $
+          let fits = J.s.typed 𝓛 (J.session r) _ (J.session_is r _ is) in
+          assigns t (of_opd t (load t (within_local t full (fld t refl (stop t))) (look_in t 0 (sub t 0 refl (held t i full))))) (from t (stop t)) (made t j (next o₁) fits) $
+          assigns t (of_opd t (var t 0 refl (here_set (next o₁) o₂))) (within_local t (me o₁ o₂) (hop t (look_in t 0 (held t 1 (me o₁ o₂))) (stop t))) (store_raw t 1 refl fits) $
+          assigns t (of_opd t (load t (within_local t (still o₁ o₂) (fld t refl (stop t))) (look_in t 0 (sub t 1 refl (held t i (still o₁ o₂)))))) (from t (stop t)) (made t 0 (result o₁ o₂) (J.o.typed 𝓛 (J.outcome r) _ (J.outcome_is r _ is))) $
           -- [the locals; the cell; the tokens; the last values; what is said of them; what a session owns; the open borrow; obs; auth]
-          move t (5 ∷ []) $ drop t $ owned t S (Is S) (J.s.makes 𝓛) (J.session r) _ (J.session_is r _ is) $ move t (2 ∷ 0 ∷ 6 ∷ 7 ∷ 8 ∷ []) $ rewrite t 0 (λ (τs : List Ty). ‵ (cell_at full_share τs (val (J.session r) ∷ []) b o)) (sym J.s.one) refl $ closes {Γ = ‵ (Locals E (set (set os i o₁) 0 (some (out r)))) ∷ raw (toks 𝓛 n κs qs) ∷ ‵ (lasts_of κs ss ks a ws.1) ∷ raw (P r ws.1) ∷ Γ} t tt S (J.session r) (val (J.session r) ∷ []) b o $
-          move t (3 ∷ []) $ leaves t (here_set (result o₁) (some (out r))) $ k r ws.1 (J.outcome_is r _ is)))))
+          move t (5 ∷ []) $ drop t $ owned t S (Is S) (J.s.makes 𝓛) (J.session r) _ (J.session_is r _ is) $ move t (2 ∷ 0 ∷ 6 ∷ 7 ∷ 8 ∷ []) $ rewrite t 0 (λ (τs : List Ty). ‵ (cell_at full_share τs (val (J.session r) ∷ []) b o)) (sym J.s.one) refl $ closes {Γ = ‵ (Locals E (set (set (set os i o₁) j o₂) 0 (some (out r)))) ∷ raw (toks 𝓛 n κs qs) ∷ ‵ (lasts_of κs ss ks a ws.1) ∷ raw (P r ws.1) ∷ Γ} t tt S (J.session r) (val (J.session r) ∷ []) b o $
+          move t (3 ∷ []) $ leaves t (here_set (result o₁ o₂) (some (out r))) $ k r ws.1 (J.outcome_is r _ is)))))
 
       -- all of the body: `begins`, the lending, `ends`
-      pub walks : {K : Type 0} {Γ : List (Item 𝓤)} → K → {E : Env 𝓤 H} {C : Calls 𝓤 H} {Λ : Loops 𝓤 H} {Kf : Val → SProp 𝓤} {κ : Lft} {q : Share} {γ : GName} {b o : ℕ} (os : List (Option Val)) (f : Name) (xs : List Passed)
+      pub walks : {K : Type 0} {Γ : List (Item 𝓤)} → K → {E : Env 𝓤 H} {C : Calls 𝓤 H} {Λ : Loops 𝓤 H} {Kf : Val → SProp 𝓤} {κ : Lft} {q : Share} {γ : GName} {b o : ℕ} (os : List (Option Val)) (f : Callee) (xs : List Passed)
           → FmC 𝓤 H 𝓛.laws C → Triple 𝓤 (C f) Work → AllFit xs → vals_of xs ≡ flat (types_at ss κs) vss → Ready 𝓤 H E os xs b o h
           → (P : After → Fins κs ss ks a → SProp 𝓤) → ((r : After) (ws : Lasts by_value κs (h, a)) → ent 𝓤 ((c κs (h, a)).ensures g r (at_exit by_value κs (h, a) ws)) (P r ws.1))
           → Returned K Γ κ q γ b o P Kf
@@ -182,13 +188,14 @@ module _ (J : Kind) where
           let os₁ = set os (suc i) (some (val h)) in
           let os₂ = lends os₁ (suc (suc i)) xs in
           let τ = (spot_of 𝓤 H E 1).0 in
-          let me : Here 𝓤 H E os 1 τ (some (vptr b o)) = record { seen = ap (nth_seen 0) (ready none).0 } in
-          let copied : Here 𝓤 H E os (suc i) τS none = record { seen = ap (nth_seen 1) (ready none).0 } in
-          let copy-held : Here 𝓤 H E os₂ (suc i) τS (some (val h)) = record { seen = ap (nth_seen 2) (ready none).0 } in
-          let room : Here 𝓤 H E os₂ i τB none = record { seen = ap (nth_seen 3) (ready none).0 } in
-          begins t h me copied (λ was. lent_all t os₁ 2 (suc (suc i)) xs (ready none).1 fit $
-          ends t fm known was (same_values t vals (and_then t (var t 1 refl copy-held) (read_all t os₂ 2 (suc (suc i)) xs (ready none).2))) P tells room
-          (λ x. record { seen = ap (nth_seen 4) (ready x).0 }) (λ x. record { seen = ap (nth_seen 5) (ready x).0 }) k)
+          let any = ready none none in
+          let me : Here 𝓤 H E os 1 τ (some (vptr b o)) = record { seen = ap (nth_seen 0) any.0 } in
+          let copied : Here 𝓤 H E os (suc i) τS none = record { seen = ap (nth_seen 1) any.0 } in
+          let copy-held : Here 𝓤 H E os₂ (suc i) τS (some (val h)) = record { seen = ap (nth_seen 2) any.0 } in
+          let room : Here 𝓤 H E os₂ i τB none = record { seen = ap (nth_seen 3) any.0 } in
+          begins t h me copied (λ was. lent_all t os₁ 2 (suc (suc i)) xs any.1 fit $
+          ends t fm known was (same_values t vals (and_then t (var t 1 refl copy-held) (read_all t os₂ 2 (suc (suc i)) xs any.2))) P tells room
+          (λ x. record { seen = ap (nth_seen 4) (ready x none).0 }) (λ x y. record { seen = ap (nth_seen 5) (ready x y).0 }) (λ x y. record { seen = ap (nth_seen 6) (ready x y).0 }) (λ x y. record { seen = ap (nth_seen 7) (ready x y).0 }) k)
 
   -- ---- the thin call, whose other parameters have the places ss
   module _ (n : ℕ) (ss : List (Slot (suc n))) (ks : Kepts ss) where
