@@ -1,5 +1,5 @@
 -- What the words of a call come to. Assumes nothing.
-use Rattle.std.proofs.Common.{◌≡◌, ℕ, suc, ◌+◌, ◌<◌, ◌≤◌, Bool, true, false, not, List, [], ◌∷◌, length, take, refl, ap, ◌∙◌, subst, arith, length-take-le}
+use Rattle.std.proofs.Common.{◌≡◌, ℕ, suc, ◌<◌, ◌≤◌, Bool, true, false, cond, not, List, [], ◌∷◌, length, take, sym, refl, ap, ◌∙◌, subst, arith, length-take-le}
 use Rattle.offer.specs.Run.{Vectors}
 use Rattle.offer.specs.declared.state.State.{State}
 use Rattle.script.specs.Call.{Call, asked}
@@ -14,18 +14,16 @@ use Rattle.stream.specs.Pieces.{Puts}
 use Rattle.stream.specs.declared.output.Output.{Output}
 use Rattle.event.specs.Event.{is_last}
 use Rattle.script.specs.declared.Kind.{Kind}
-use Rattle.fit.specs.Reading.{Holds, Came_to, missing, wants_more}
+use Rattle.fit.specs.Reading.{Holds, Came_to, wants_more}
 use Rattle.fit.specs.Meaning.{is_end, comes_to, trials_after, written, Turned}
 use Rattle.fit.specs.declared.Manner.{Manner}
 use Rattle.fit.specs.declared.Standing.{Standing}
 use Rattle.fit.specs.declared.reading.Part.TheVariants as part
 use Rattle.fit.specs.declared.reading.Ending.{Ending}
 use Rattle.fit.specs.declared.reading.Ending.TheVariants as ending
-use Rattle.script.specs.Places.{Reaches}
 use Rattle.script.specs.Call as Call
 use Rattle.fit.specs.declared.reading.Held.{Held}
 use Rattle.fit.specs.declared.reading.Script.{Script}
-use Rattle.script.proofs.Fronts.{none_odd}
 use Rattle.fit.proofs.Words.{over_nothing}
 
 module _ (n : ℕ) (session : Session) (v : Vectors) (words : List ℕ) (held : Held) (within : held.count ≤ length words) where
@@ -50,7 +48,6 @@ turned m n tells_more standing v {words' = words'} {held = held} {after = after}
   event = after.event;
   comes = h.comes;
   enough = rw (length-take-le held.count words' h.within) (subst (λ (x : Kind). wants_more held.ending (Call.wants x n (take held.count words')) ≤ held.count) e h.enough);
-  reaches = rw (length-take-le held.count words' h.within) (subst (λ (x : Kind). Reaches (Call.wants x n (take held.count words')) (held.count + missing held.ending)) e h.reaches);
   happens = p;
   puts = q;
   counts = c;
@@ -59,23 +56,26 @@ turned m n tells_more standing v {words' = words'} {held = held} {after = after}
 
 -- ---- turns come to an end
 
--- words that make no call are the last event of all, and so is their lack
-pub odd_bad : (session : Session) (v : Vectors) → (perform_by session v Call.odd).event ≡ event.Bad
-odd_bad (Kinds.TrustRegion s) v = refl
-odd_bad (Kinds.Sr1 s) v = refl
+-- no words make no call, so the last event of all
+bad_empty : (session : Session) (v : Vectors) (n : ℕ) → (perform_by session v (asked (kind_of session) n [])).event ≡ event.Bad
+unfolding asked Call.wants
+bad_empty (Kinds.TrustRegion s) v n = refl
+bad_empty (Kinds.Sr1 s) v n = refl
 
-none_last : (n : ℕ) (s : Station) → is_last (perform (asked (kind_of s.session) n []) s).event ≡ true
-none_last n s = rw (none_odd (kind_of s.session) n) (ap is_last (odd_bad s.session s.lent))
-
-pub empty_last : (n : ℕ) (s : Station) (how : Ending) → is_last (comes_to n s [] how).event ≡ true
-empty_last n s ending.None = none_last n s
+empty_last : (n : ℕ) (s : Station) (how : Ending) → is_last (comes_to n s [] how).event ≡ true
+empty_last n s ending.None = ap is_last (bad_empty s.session s.lent n)
 empty_last n s ending.Whole = refl
-empty_last n s ending.Ragged = none_last n s
+empty_last n s ending.Ragged = ap is_last (bad_empty s.session s.lent n)
 
-pub some_words : (n : ℕ) (s : Station) (how : Ending) (words : List ℕ) (e : Event) (running : Bool) → running ≡ not (is_last e) → e ≡ (comes_to n s words how).event → running ≡ true → 1 ≤ length words
+one_if : Bool → ℕ
+one_if b = cond b 1 0
+
+some_words : (n : ℕ) (s : Station) (how : Ending) (words : List ℕ) (e : Event) (running : Bool) → running ≡ not (is_last e) → e ≡ (comes_to n s words how).event → running ≡ true → 1 ≤ length words
+unfolding one_if
 some_words n s how [] e running on says so =
-    let off : running ≡ false = on ∙ ap not (ap is_last says ∙ empty_last n s how) in
-    let no : ◌≡◌ {A = ℕ} 0 1 = cc in omega arith
+    let last : is_last e ≡ true = ap is_last says ∙ empty_last n s how in
+    let no : true ≡ false = sym so ∙ on ∙ ap not last in
+    let off : ◌≡◌ {A = ℕ} 1 0 = ap one_if no in omega (arith, off)
 some_words n s how (w ∷ words) e running on says so = omega arith
 
 fewer_left : (how : Ending) (room : List ℕ) (s : Script) (words room' : List ℕ) (s' : Script) → Came_to how room s words room' s' → 1 ≤ length words → s'.left < s.left

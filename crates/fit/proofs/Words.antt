@@ -1,20 +1,25 @@
 -- Words that are read one after another. Assumes nothing.
-use Rattle.std.proofs.Common.{◌≡◌, ℕ, suc, ◌+◌, ◌-◌, ◌<◌, ◌≤◌, List, [], ◌∷◌, ◌++◌, length, take, set, sym, refl, ap, ◌∙◌, subst, append_assoc, append-nil, add-one, arith, length-append, length-set, length-take-le, take-suc-set}
+use Rattle.std.proofs.Common.{◌≡◌, ℕ, suc, ◌+◌, ◌-◌, ◌<◌, ◌≤◌, List, [], ◌∷◌, ◌++◌, length, take, set, sym, refl, ap, ◌∙◌, subst, add-one, arith, length-append, length-set, take-suc-set}
 use Rattle.stream.specs.Input.{Next}
 use Rattle.stream.specs.declared.input.Input.{Input}
 use Rattle.stream.specs.declared.input.Word.TheVariants as word
-use Rattle.fit.specs.Reading.{Reads, none, more, missing, Read, Over, limit, end, bytes, All, Came_to, Fills, wants, wants_more, Holds, Skips}
+use Rattle.fit.specs.Reading.{Reads, none, more, Read, Over, limit, end, bytes, All, Came_to, Fills, wants, wants_more, Holds, Skips}
 use Rattle.fit.specs.declared.reading.Script.{Script}
-use Rattle.script.specs.Places.{Reaches, within}
-use Rattle.script.proofs.Fronts.{start_reaches, call_reaches}
 use Rattle.fit.specs.declared.reading.Part.{Part}
-use Rattle.fit.specs.declared.reading.Part.TheVariants as part
 use Rattle.fit.specs.declared.reading.Held.{Held}
 use Rattle.fit.specs.declared.reading.Ending.{Ending}
 use Rattle.fit.specs.declared.reading.Ending.TheVariants as ending
 
-reads_append : {room room₁ room₂ words new : List ℕ} {i i₁ i₂ : Input} → Reads room i words room₁ i₁ → Reads room₁ i₁ new room₂ i₂ → Reads room i (words ++ new) room₂ i₂
-reads_append {words = words} p none = rw (append-nil words) p
+append_assoc : {A : Type 0} (a b c : List A) → (a ++ b) ++ c ≡ a ++ (b ++ c)
+append_assoc [] b c = refl
+append_assoc (x ∷ a) b c = ap (λ (l : List _). x ∷ l) (append_assoc a b c)
+
+append_nil : {A : Type 0} (a : List A) → a ++ [] ≡ a
+append_nil [] = refl
+append_nil (x ∷ a) = ap (λ (l : List _). x ∷ l) (append_nil a)
+
+reads_append : {room room₁ words : List ℕ} {i i₁ : Input} {room₂ new : List ℕ} {i₂ : Input} → Reads room i words room₁ i₁ → Reads room₁ i₁ new room₂ i₂ → Reads room i (words ++ new) room₂ i₂
+reads_append {words = words} p none = rw (append_nil words) p
 reads_append {words = words} p (more {words = ws} w q n) = rw (← (append_assoc words ws (w ∷ []))) (more w (reads_append p q) n)
 
 pub read_none : {room : List ℕ} {s : Script} → Read room s [] room s
@@ -41,7 +46,7 @@ pub record Filling (room₀ words₀ : List ℕ) (have want : ℕ) (s₀ : Scrip
   pub read : Read room₀ s₀ new room s
 
 pub filling_none : {room words : List ℕ} {have want : ℕ} {s : Script} → have ≤ want → Filling room words have want s room words s have
-filling_none {words = words} {have = have} h = record { room_long = refl; words_long = refl; new = []; front = sym (append-nil (take have words)); long = omega arith; within = h; read = read_none }
+filling_none {words = words} {have = have} h = record { room_long = refl; words_long = refl; new = []; front = sym (append_nil (take have words)); long = omega arith; within = h; read = read_none }
 
 pub filling_more : {room₀ words₀ : List ℕ} {have want : ℕ} {s₀ : Script} {room words : List ℕ} {s : Script} {count : ℕ} {room' : List ℕ} {s' : Script} (w : ℕ)
     → Filling room₀ words₀ have want s₀ room words s count → count < want → want ≤ length words₀ → length room' ≡ length room
@@ -58,20 +63,22 @@ filling_more {words₀ = words₀} {have = have} {words = words} {count = count}
 
 pub filling_whole : {room₀ words₀ : List ℕ} {have want : ℕ} {s₀ : Script} {room words : List ℕ} {s : Script} {count : ℕ} → Filling room₀ words₀ have want s₀ room words s count → want ≤ count
     → Fills room₀ words₀ have want s₀ (record { count = count; ending = ending.None; script = s }) room words
-filling_whole p h = record { new = p.new; front = p.front; long = p.long; within = omega (arith, p.within); full = λ e. omega (arith, h, p.within); comes = p.read }
+filling_whole p h = record { new = p.new; front = p.front; long = p.long; within = p.within; full = λ e. omega (arith, h, p.within); comes = p.read }
 
 came_over : {room₀ words : List ℕ} {s₀ : Script} {room : List ℕ} {s : Script} {room' : List ℕ} {s' : Script} (e : Ending) → Read room₀ s₀ words room s → Over room s e room' s' → Came_to e room₀ s₀ words room' s'
+came_over ending.None p q = elim q [ ]
 came_over ending.Whole p q = record { room_then = _; then = _; read = p; ended = q }
 came_over ending.Ragged p q = record { room_then = _; then = _; read = p; ended = q }
 
 pub filling_over : {room₀ words₀ : List ℕ} {have want : ℕ} {s₀ : Script} {room words : List ℕ} {s : Script} {count : ℕ} {room' : List ℕ} {s' : Script} (e : Ending)
-    → Filling room₀ words₀ have want s₀ room words s count → count < want → Over room s e room' s' → Fills room₀ words₀ have want s₀ (record { count = count; ending = e; script = s' }) room' words
-filling_over ending.Whole p less q = record { new = p.new; front = p.front; long = p.long; within = omega (arith, less); full = λ e. cc; comes = came_over ending.Whole p.read q }
-filling_over ending.Ragged p less q = record { new = p.new; front = p.front; long = p.long; within = omega (arith, less); full = λ e. cc; comes = came_over ending.Ragged p.read q }
+    → Filling room₀ words₀ have want s₀ room words s count → Over room s e room' s' → Fills room₀ words₀ have want s₀ (record { count = count; ending = e; script = s' }) room' words
+filling_over ending.None p q = elim q [ ]
+filling_over ending.Whole p q = record { new = p.new; front = p.front; long = p.long; within = p.within; full = λ e. cc; comes = came_over ending.Whole p.read q }
+filling_over ending.Ragged p q = record { new = p.new; front = p.front; long = p.long; within = p.within; full = λ e. cc; comes = came_over ending.Ragged p.read q }
 
 -- ---- the words of a part, read as long as they want more
 
-pub came_append : (e : Ending) (new room₂ : List ℕ) (s₂ : Script) {room room₁ words : List ℕ} {s s₁ : Script} → Read room s words room₁ s₁ → Came_to e room₁ s₁ new room₂ s₂ → Came_to e room s (words ++ new) room₂ s₂
+came_append : (e : Ending) (new room₂ : List ℕ) (s₂ : Script) {room room₁ words : List ℕ} {s s₁ : Script} → Read room s words room₁ s₁ → Came_to e room₁ s₁ new room₂ s₂ → Came_to e room s (words ++ new) room₂ s₂
 came_append ending.None new room₂ s₂ p q = read_append p q
 came_append ending.Whole new room₂ s₂ p q = record { room_then = q.room_then; then = q.then; read = read_append p q.read; ended = q.ended }
 came_append ending.Ragged new room₂ s₂ p q = record { room_then = q.room_then; then = q.then; read = read_append p q.read; ended = q.ended }
@@ -82,15 +89,6 @@ goes_on ending.None want w count e h = refl
 goes_on ending.Whole want w count e h = let no : ⊥ = omega (arith, e, h) in absurd no
 goes_on ending.Ragged want w count e h = let no : ⊥ = omega (arith, e, h) in absurd no
 
-part_reaches : (p : Part) (words new : List ℕ) (less : ℕ) → less ≤ 1 → length words < wants p words → length (words ++ new) + less ≤ wants p words → Reaches (wants p (words ++ new)) (length (words ++ new) + less)
-part_reaches part.Start words new less one some upto = start_reaches words new less one some upto
-part_reaches (part.Call k n) words new less one some upto = call_reaches k n words new less some upto
-
-missing_one : (e : Ending) → missing e ≤ 1
-missing_one ending.None = omega arith
-missing_one ending.Whole = omega arith
-missing_one ending.Ragged = omega arith
-
 pub record Partly (p : Part) (room₀ words₀ : List ℕ) (s₀ : Script) (room words : List ℕ) (held : Held) (want : ℕ) : Type 0 where
   pub room_long : length room ≡ length room₀
   pub words_long : length words ≡ length words₀
@@ -98,11 +96,10 @@ pub record Partly (p : Part) (room₀ words₀ : List ℕ) (s₀ : Script) (room
   pub comes : Came_to held.ending room₀ s₀ (take held.count words) room held.script
   pub wanted : want ≡ wants_more held.ending (wants p (take held.count words))
   pub small : want ≤ 4239
-  pub reaches : Reaches (wants p (take held.count words)) (held.count + missing held.ending)
 
 module _ (p : Part) {room₀ words₀ : List ℕ} {s₀ : Script} where
   pub partly_none : {want : ℕ} → (want ≡ wants p []) × (want ≤ 4239) → Partly p room₀ words₀ s₀ room₀ words₀ (record { count = 0; ending = ending.None; script = s₀ }) want
-  partly_none e = record { room_long = refl; words_long = refl; within = omega arith; comes = read_none; wanted = e.0; small = e.1; reaches = within (omega arith) }
+  partly_none e = record { room_long = refl; words_long = refl; within = omega arith; comes = read_none; wanted = e.0; small = e.1 }
 
   module _ {room words : List ℕ} {held : Held} {want : ℕ} (h : Partly p room₀ words₀ s₀ room words held want) (less : held.count < want) where
     was_open : held.ending ≡ ending.None
@@ -112,9 +109,6 @@ module _ (p : Part) {room₀ words₀ : List ℕ} {s₀ : Script} where
         → Fills room words held.count want held.script held' room' words'
         → (want' ≡ wants_more held'.ending (wants p (take held'.count words'))) × (want' ≤ 4239) → Partly p room₀ words₀ s₀ room' words' held' want'
     partly_more {room' = room'} {held' = held'} room-kept words-kept long f e =
-        let held-long : length (take held.count words) ≡ held.count = length-take-le held.count words h.within in
-        let want_is : want ≡ wants p (take held.count words) = rw was_open at h.wanted in
-        let new-long : length (take held.count words ++ f.new) ≡ held'.count = omega (arith, length-append (take held.count words) f.new, held-long, f.long) in
         let read : Read room₀ s₀ (take held.count words) room held.script = subst (λ (x : Ending). Came_to x room₀ s₀ (take held.count words) room held.script) was_open h.comes in
         record {
           room_long = room-kept ∙ h.room_long;
@@ -123,9 +117,6 @@ module _ (p : Part) {room₀ words₀ : List ℕ} {s₀ : Script} where
           comes = rw f.front (came_append held'.ending f.new room' held'.script read f.comes);
           wanted = e.0;
           small = e.1;
-          reaches = rw f.front
-              (subst (λ (k : ℕ). Reaches (wants p (take held.count words ++ f.new)) (k + missing held'.ending)) new-long
-              (part_reaches p (take held.count words) f.new (missing held'.ending) (missing_one held'.ending) (omega (arith, held-long, less, want_is)) (omega (arith, new-long, f.within, want_is))));
         }
 
 -- as long as the script goes on, fewer words are left to read
@@ -149,7 +140,7 @@ partly_less p {held = held} {want = want} {held' = held'} h less f =
     (λ e. omega (arith, f.full e, h.small, less))
 
 pub partly_whole : (p : Part) {room₀ words₀ : List ℕ} {s₀ : Script} {room words : List ℕ} {held : Held} {want : ℕ} → Partly p room₀ words₀ s₀ room words held want → want ≤ held.count → Holds p room₀ s₀ held room words
-partly_whole p h e = record { within = h.within; comes = h.comes; enough = rw (← h.wanted) e; reaches = h.reaches }
+partly_whole p h e = record { within = h.within; comes = h.comes; enough = rw (← h.wanted) e }
 
 -- ---- what is left, read past
 
@@ -171,8 +162,8 @@ past_read (gone e p z) h = let no : ⊥ = omega (arith, z, h) in absurd no
 
 pub over_nothing : {room : List ℕ} {s : Script} {room' : List ℕ} {s' : Script} {e : Ending} → Over room s e room' s' → s'.left ≡ 0
 over_nothing (limit h) = h
-over_nothing (end h n) = refl
-over_nothing (bytes h n) = refl
+over_nothing (end n) = refl
+over_nothing (bytes n) = refl
 
 module _ {room₀ : List ℕ} {s₀ : Script} {room : List ℕ} {s : Script} (p : Passing room₀ s₀ room s) where
   pub passing_more : {room' : List ℕ} {s' : Script} (w : ℕ) → 0 < s.left → length room' ≡ length room → Next room s.input room' (word.Is w s'.input) × (s.left ≡ suc s'.left) → Passing room₀ s₀ room' s'

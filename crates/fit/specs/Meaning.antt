@@ -2,7 +2,6 @@
 use Rattle.std.specs.Prelude.{◌≡◌, ℕ, ◌+◌, ◌%◌, ◌^◌, ◌≤◌, Bool, false, cond, not, List, length, ◌==◌, Float}
 use Rattle.stream.specs.Pieces.{Piece, Puts}
 use Rattle.offer.specs.Run.{Vectors}
-use Rattle.script.specs.Places.{Reaches}
 use Rattle.script.specs.Call as Call
 use Rattle.script.specs.Call.{asked}
 use Rattle.event.specs.Event.{is_last}
@@ -13,10 +12,11 @@ use Rattle.station.specs.Happening.{Station, Happened, Performed}
 use Rattle.station.specs.Station.{kind_of, state_of, perform}
 use Rattle.report.specs.Lines.{lines}
 use Rattle.report.specs.Table.{rows}
-use Rattle.fit.specs.Reading.{Came_to, missing, wants_more}
+use Rattle.fit.specs.Reading.{Came_to, wants_more}
 use Rattle.fit.specs.declared.Manner.{Manner}
 use Rattle.fit.specs.declared.Manner.TheVariants as manner
 use Rattle.fit.specs.declared.Standing.{Standing}
+use Rattle.fit.specs.declared.reading.Script.{Script}
 use Rattle.fit.specs.declared.reading.Ending.{Ending}
 use Rattle.fit.specs.declared.reading.Ending.TheVariants as ending
 
@@ -26,12 +26,11 @@ is_end ending.None count = false
 is_end ending.Whole count = count == 0
 is_end ending.Ragged count = false
 
-abbrev pub ended : Station → Happened
-ended s = record { event = event.Ended (state_of s.session); after = s }
-
 -- "Where the input ends behind a whole call", the end; and else what the words of a call ask, which may be odd
 abbrev pub comes_to : (n : ℕ) → Station → (words : List ℕ) → Ending → Happened
-comes_to n s words e = cond (is_end e (length words)) (ended s) (perform (asked (kind_of s.session) n words) s)
+comes_to n s words e =
+    cond (is_end e (length words)) (record { event = event.Ended (state_of s.session); after = s })
+    (perform (asked (kind_of s.session) n words) s)
 
 -- ---- how it is written
 
@@ -60,8 +59,14 @@ pub record Turned (m : Manner) (n : ℕ) (tells_more : Bool) (at : Standing) (ro
   pub event : Event
   pub comes : Came_to how room at.script words room' r.script
   pub enough : wants_more how (Call.wants (kind_of at.session) n words) ≤ length words
-  pub reaches : Reaches (Call.wants (kind_of at.session) n words) (length words + missing how)
   pub happens : Performed (comes_to n (Happening.at at.session v) words how) (record { session = r.session; event = event }) v'
   pub puts : Puts (written m at.trials event tells_more v'.point v'.gradient v'.hessian v'.step v'.trial) page at.output.at page' r.output.at
   pub counts : r.trials ≡ trials_after at.trials event
   pub goes_on : r.running ≡ not (is_last event)
+
+-- ---- a script was run, and no word of it is left; the room and the page keep their lengths
+
+pub record Ended (room page room' page' : List ℕ) (rest : Script) : Type 0 where
+  pub over : rest.left ≡ 0
+  pub room_long : length room' ≡ length room
+  pub page_long : length page' ≡ length page

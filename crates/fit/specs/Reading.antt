@@ -1,9 +1,8 @@
 -- How the words of a script are read. Which words the system gives is its own affair: these definitions say what is made of them. Definitions only.
-use Rattle.std.specs.Prelude.{◌≡◌, ℕ, suc, ◌+◌, ◌<◌, ◌≤◌, List, [], ◌∷◌, ◌++◌, length, take}
+use Rattle.std.specs.Prelude.{◌≡◌, ℕ, suc, ◌+◌, ◌≤◌, List, [], ◌∷◌, ◌++◌, length, take}
 use Rattle.stream.specs.Input.{Next}
 use Rattle.stream.specs.declared.input.Input.{Input}
 use Rattle.stream.specs.declared.input.Word.TheVariants as word
-use Rattle.script.specs.Places.{Reaches}
 use Rattle.script.specs.Start as Start
 use Rattle.script.specs.Call as Call
 use Rattle.fit.specs.declared.reading.Script.{Script}
@@ -32,8 +31,8 @@ over = record { input = record { at = 0; end = 0 }; left = 0 }
 -- A script ends where it has no more words, or standard input has none; bytes that make no word are an end too, a ragged one.
 pub data Over (room : List ℕ) (s : Script) : Ending → List ℕ → Script → Type 0 where
   limit : s.left ≡ 0 → Over room s ending.Whole room s
-  end : {room' : List ℕ} → 0 < s.left → Next room s.input room' word.End → Over room s ending.Whole room' over
-  bytes : {room' : List ℕ} → 0 < s.left → Next room s.input room' word.Short → Over room s ending.Ragged room' over
+  end : {room' : List ℕ} → Next room s.input room' word.End → Over room s ending.Whole room' over
+  bytes : {room' : List ℕ} → Next room s.input room' word.Short → Over room s ending.Ragged room' over
 
 -- a script's words were read, and then it ended
 pub record All (room : List ℕ) (s : Script) (words : List ℕ) (e : Ending) (room' : List ℕ) (s' : Script) : Type 0 where
@@ -53,18 +52,12 @@ abbrev pub Comes : (room : List ℕ) → Script → (room' : List ℕ) → Came 
 Comes room s room' (came.Is w s') = Next room s.input room' (word.Is w s'.input) × (s.left ≡ suc s'.left)
 Comes room s room' (came.Over e s') = Over room s e room' s'
 
--- where a script ended there is a word less than was wanted, or more
-abbrev pub missing : Ending → ℕ
-missing ending.None = 0
-missing ending.Whole = 1
-missing ending.Ragged = 1
-
 -- words up to a count, behind those that are there; fewer where the script ends
 pub record Fills (room words : List ℕ) (have want : ℕ) (s : Script) (r : Held) (room' words' : List ℕ) : Type 0 where
   pub new : List ℕ
   pub front : take r.count words' ≡ take have words ++ new
   pub long : r.count ≡ have + length new
-  pub within : r.count + missing r.ending ≤ want
+  pub within : r.count ≤ want
   pub full : r.ending ≡ ending.None → r.count ≡ want
   pub comes : Came_to r.ending room s new room' r.script
 
@@ -84,7 +77,6 @@ pub record Holds (p : Part) (room : List ℕ) (s : Script) (r : Held) (room' wor
   pub within : r.count ≤ length words'
   pub comes : Came_to r.ending room s (take r.count words') room' r.script
   pub enough : wants_more r.ending (wants p (take r.count words')) ≤ r.count
-  pub reaches : Reaches (wants p (take r.count words')) (r.count + missing r.ending)
 
 -- what is left of a script was read past
 pub record Skips (room : List ℕ) (s : Script) (room' : List ℕ) (s' : Script) : Type 0 where

@@ -4,18 +4,16 @@
 
 mod reading;
 
-ghost use Rattle.std.specs.Prelude.{◌≡◌, ◌*◌, ◌≤◌, true, length, take};
+ghost use Rattle.std.specs.Prelude.{◌≡◌, ◌*◌, ◌≤◌, length, take};
 ghost use Rattle.stream.specs.Pieces.{Puts};
 ghost use Rattle.station.specs.Happening.{lent, Performed};
 ghost use Rattle.station.specs.Happening as Happening;
 ghost use Rattle.fit.specs.Meaning as Meaning;
 ghost use Rattle.fit.specs.Meaning.{comes_to, Turned};
-ghost use Rattle.fit.specs.Script as Definition;
-ghost use Rattle.fit.specs.Script.{Laid, calling, opening, Writes, Replayed};
 
 use event::Event;
-pub use reading::{Ending, Script, of, whole_input};
-use reading::{Held, Part};
+use reading::{Ending, Held, Part};
+pub use reading::{Script, of, whole_input};
 use script::{call, start};
 use station::{After, Begun, Session};
 use stream::Output;
@@ -36,7 +34,7 @@ pub struct Ran {
 
 // Runs a script to its end. What follows words that are bad, or a start that is refused, is read past.
 pub fn run(manner: Manner, room: &mut [u8], page: &mut [u8], script: Script, output: Output) -> Ran
-    ensures { Replayed manner room.old page.old script output result room.new page.new }
+    ensures { Meaning.Ended room.old page.old room.new page.new result.script }
 {
     let mut words = [0u64; 4239];
     let held = reading::read(room, &mut words, Part::Start, script);
@@ -50,7 +48,7 @@ pub fn run(manner: Manner, room: &mut [u8], page: &mut [u8], script: Script, out
     }
 }
 
-// The lists of the session, and those that come with answers, each at its own length; none has a number where there is no start.
+// The lists of the session, and those that come with answers, each at its own length.
 fn opened(
     manner: Manner,
     room: &mut [u8],
@@ -61,9 +59,15 @@ fn opened(
     output: Output,
 ) -> Ran
     requires { (count ≤ length words.old) × (length words.old ≡ 4239) }
-    ensures { Writes (opening manner (take count words.old)) room.old page.old script output result room.new page.new }
 {
-    let n = sized(words, count);
+    if start::wanted(&words[..count]) != count {
+        let put = stream::put_text(page, output, b"bad input\n");
+        return Ran {
+            script,
+            output: put,
+        };
+    }
+    let n = start::size(&words[..count]);
     let square = n * n;
     let work = 2 * square + 8 * n;
     let mut point = [0.0; 64];
@@ -94,17 +98,6 @@ fn opened(
     )
 }
 
-// The n of a start that is there, and else 0.
-fn sized(words: &[u64], count: usize) -> usize
-    requires { count ≤ length words.now }
-    ensures { (result ≡ Definition.sized (take count words.now)) × (result ≤ 64) }
-{
-    if start::wanted(&words[..count]) != count {
-        return 0;
-    }
-    start::size(&words[..count])
-}
-
 fn begun(
     manner: Manner,
     room: &mut [u8],
@@ -123,68 +116,81 @@ fn begun(
     new_gradient: &mut [f64],
     new_hessian: &mut [f64],
 ) -> Ran
-    requires { (count ≤ length words.old) × (length words.old ≡ 4239) × Laid (take count words.old) n (lent point.old gradient.old hessian.old step.old trial.old scratch.old) new_gradient.old new_hessian.old }
-    ensures { Writes (opening manner (take count words.old)) room.old page.old script output result room.new page.new }
+    requires { (count ≤ length words.old) × (length words.old ≡ 4239) × (length new_gradient.old ≡ n) × (length new_hessian.old ≡ n * n) }
 {
     let tells_more = start::tells_more(&words[..count]);
     let told = start::decode(&words[..count], point, gradient, hessian);
-    let begun = station::begin(told);
-    let put = written(
-        manner,
-        page,
-        output,
-        0,
-        first(begun),
-        tells_more,
-        point,
-        gradient,
-        hessian,
-        step,
-        trial,
-    );
-    match begun {
-        Begun::Session(session) => calls(
-            manner,
-            room,
-            page,
-            words,
-            n,
-            tells_more,
-            Standing {
+    match station::begin(told) {
+        Begun::Session(session) => {
+            let at = Standing {
                 session,
                 script,
-                output: put,
+                output: written(
+                    manner,
+                    page,
+                    output,
+                    0,
+                    Event::Started(station::state_of(session)),
+                    tells_more,
+                    point,
+                    gradient,
+                    hessian,
+                    step,
+                    trial,
+                ),
                 trials: 0,
                 running: true,
-            },
-            point,
-            gradient,
-            hessian,
-            step,
-            trial,
-            scratch,
-            new_gradient,
-            new_hessian,
-        ),
-        Begun::Refused(_) => Ran {
+            };
+            calls(
+                manner,
+                room,
+                page,
+                words,
+                n,
+                tells_more,
+                at,
+                point,
+                gradient,
+                hessian,
+                step,
+                trial,
+                scratch,
+                new_gradient,
+                new_hessian,
+            )
+        }
+        Begun::Refused(r) => Ran {
             script,
-            output: put,
+            output: written(
+                manner,
+                page,
+                output,
+                0,
+                Event::NotStarted(r),
+                tells_more,
+                point,
+                gradient,
+                hessian,
+                step,
+                trial,
+            ),
         },
         Begun::Odd => Ran {
             script,
-            output: put,
+            output: written(
+                manner,
+                page,
+                output,
+                0,
+                Event::Bad,
+                tells_more,
+                point,
+                gradient,
+                hessian,
+                step,
+                trial,
+            ),
         },
-    }
-}
-
-// What is told of a start.
-fn first(begun: Begun) -> Event
-    ensures { result ≡ Definition.first begun }
-{
-    match begun {
-        Begun::Session(session) => Event::Started(station::state_of(session)),
-        Begun::Refused(r) => Event::NotStarted(r),
-        Begun::Odd => Event::Bad,
     }
 }
 
@@ -215,9 +221,7 @@ fn calls(
     new_gradient: &mut [f64],
     new_hessian: &mut [f64],
 ) -> Ran
-    requires { (length words.old ≡ 4239) × (length new_gradient.old ≡ n) × (length new_hessian.old ≡ n * n) × (begun.running ≡ true) }
-    ensures { Writes (calling manner n tells_more begun.trials (Happening.at begun.session (lent point.old gradient.old hessian.old step.old trial.old scratch.old)))
-        room.old page.old begun.script begun.output result room.new page.new }
+    requires { (length words.old ≡ 4239) × (length new_gradient.old ≡ n) × (length new_hessian.old ≡ n * n) }
 {
     let mut at = begun;
     while at.running {

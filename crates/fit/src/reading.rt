@@ -43,7 +43,7 @@ pub(crate) enum Part {
 
 // Whether the script goes on, as far as was read; or it ended, behind its last word or with bytes that make none.
 #[derive(Clone, Copy)]
-pub enum Ending {
+pub(crate) enum Ending {
     None,
     Whole,
     Ragged,
