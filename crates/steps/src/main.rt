@@ -6,8 +6,7 @@
 ghost use Rattle.std.specs.Prelude.{◌≤◌};
 
 use case::Said;
-use stream::STDIN_FILENO;
-use stream::Output;
+use stream::{Output, STDIN_FILENO};
 use vectors::refusal::Refusal;
 
 // What comes next: a length, the very end, or bytes that make no word.
