@@ -20,7 +20,7 @@ module _ (T : Ended) where
   Contract = (M : Type 1) (𝓤 : Ura M) (𝓛 : Logic 𝓤) → (Memory → SProp 𝓤) → (Routine → Fun 𝓤) → Spec 𝓤 T.signature
 
   abbrev pub at : Contract → (w : World) → Spec w.𝓤 T.signature
-  at c w = c w.M w.𝓤 w.𝓛 w.𝓜.mem w.𝓡.run
+  at c w = c w.M w.𝓤 w.𝓛 w.𝓜.mem w.𝓡.returns
 
   -- a call: its lifetimes, its arguments and its result. `Lasts T κs a` is what is left at its end in each thing that was lent to be changed; what was lent to be read is as it was, by its type
   abbrev pub Lifetimes : Type 0

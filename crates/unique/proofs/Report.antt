@@ -3,10 +3,10 @@ use mathlib.Core.Path.{refl}
 use mathlib.Core.List.{List, [], ◌∷◌}
 use Rattle.unique.proofs.Law.{Line, unique, ◌&◌}
 use Rattle.unique.proofs.Stream.{puts}
-use Rattle.report.proofs as report
+use Rattle.report.specs.contracts as report
 
 pub table : List Line
 table =
-    unique report.lines.put.ended (λ M. report.lines.put.spec) (λ w κs a g r. refl) (λ κs a r r₂ s s₂ p q. let e = puts _ refl refl p q in ((λ i. record { at = e.0 i }), λ i. e.1 i & tt & tt & tt & tt & tt & tt & tt & tt & tt))
-    ∷ unique report.table.put.ended (λ M. report.table.put.spec) (λ w κs a g r. refl) (λ κs a r r₂ s s₂ p q. let e = puts _ refl refl p q in ((λ i. record { at = e.0 i }), λ i. e.1 i & tt & tt & tt & tt & tt))
+    unique report.lines.put.ended (λ M 𝓤. report.lines.put.spec) (λ w κs a g r. refl) (λ κs a r r₂ s s₂ p q. let e = puts _ refl refl p q in ((λ i. record { at = e.0 i }), λ i. e.1 i & tt & tt & tt & tt & tt & tt & tt & tt & tt))
+    ∷ unique report.table.put.ended (λ M 𝓤. report.table.put.spec) (λ w κs a g r. refl) (λ κs a r r₂ s s₂ p q. let e = puts _ refl refl p q in ((λ i. record { at = e.0 i }), λ i. e.1 i & tt & tt & tt & tt & tt))
     ∷ []

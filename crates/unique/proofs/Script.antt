@@ -7,8 +7,8 @@ use lib.Ieee.{Float}
 use Rattle.script.specs.Start.{is_whole, lists_by, Decoded}
 use Rattle.script.specs.declared.start.Start.{Start}
 use Rattle.unique.proofs.Law.{Line, unique, equation, alike, ◌&◌}
-use Rattle.script.proofs.start as start
-use Rattle.script.proofs.call as call
+use Rattle.script.specs.contracts.start as start
+use Rattle.script.specs.contracts.call as call
 
 -- the lists that a start fills, or leaves
 module _ (words : List ℕ) (point point₁ point₂ gradient gradient₁ gradient₂ hessian hessian₁ hessian₂ : List Float) where
@@ -22,11 +22,11 @@ module _ {words : List ℕ} {r r₂ : Start} {point point₁ point₂ gradient g
 
 pub table : List Line
 table =
-    equation start.kind.ended (λ M. start.kind.spec) (λ w κs a g r. refl) (λ κs a s s₂. refl)
-    ∷ equation start.size.ended (λ M. start.size.spec) (λ w κs a g r. refl) (λ κs a s s₂. refl)
-    ∷ equation start.tells_more.ended (λ M. start.tells_more.spec) (λ w κs a g r. refl) (λ κs a s s₂. refl)
-    ∷ equation start.wanted.ended (λ M. start.wanted.spec) (λ w κs a g r. refl) (λ κs a s s₂. refl)
-    ∷ unique start.decode.ended (λ M. start.decode.spec) (λ w κs a g r. refl) (λ κs a r r₂ s s₂ p q. let e = decoded p q in (alike p.says q.says, λ i. tt & e.0 i & e.1 i & e.2 i & tt))
-    ∷ equation call.wanted.ended (λ M. call.wanted.spec) (λ w κs a g r. refl) (λ κs a s s₂. refl)
-    ∷ unique call.decode.ended (λ M. call.decode.spec) (λ w κs a g r. refl) (λ κs a r r₂ s s₂ p q. (alike p.says q.says, λ i. tt & tt & tt & alike p.leaves_gradient q.leaves_gradient i & alike p.leaves_hessian q.leaves_hessian i & tt))
+    equation start.kind.ended (λ M 𝓤. start.kind.spec) (λ w κs a g r. refl) (λ κs a s s₂. refl)
+    ∷ equation start.size.ended (λ M 𝓤. start.size.spec) (λ w κs a g r. refl) (λ κs a s s₂. refl)
+    ∷ equation start.tells_more.ended (λ M 𝓤. start.tells_more.spec) (λ w κs a g r. refl) (λ κs a s s₂. refl)
+    ∷ equation start.wanted.ended (λ M 𝓤. start.wanted.spec) (λ w κs a g r. refl) (λ κs a s s₂. refl)
+    ∷ unique start.decode.ended (λ M 𝓤. start.decode.spec) (λ w κs a g r. refl) (λ κs a r r₂ s s₂ p q. let e = decoded p q in (alike p.says q.says, λ i. tt & e.0 i & e.1 i & e.2 i & tt))
+    ∷ equation call.wanted.ended (λ M 𝓤. call.wanted.spec) (λ w κs a g r. refl) (λ κs a s s₂. refl)
+    ∷ unique call.decode.ended (λ M 𝓤. call.decode.spec) (λ w κs a g r. refl) (λ κs a r r₂ s s₂ p q. (alike p.says q.says, λ i. tt & tt & tt & alike p.leaves_gradient q.leaves_gradient i & alike p.leaves_hessian q.leaves_hessian i & tt))
     ∷ []

@@ -11,10 +11,10 @@ use Rattle.sr1.specs.Run.{propose, answer, outcome, respond}
 use Rattle.sr1.specs.declared.session.Session.{Session}
 use Rattle.sr1.specs.declared.session.After.{After}
 use Rattle.unique.proofs.Law.{Contract, Fact, States, states, Line, unique, equation, alike, ◌&◌}
-use Rattle.sr1.proofs.settings as settings
-use Rattle.sr1.proofs.session as session
-use Rattle.sr1.proofs.sr1_trustregion as method
-use Rattle.sr1.proofs.in_place as place
+use Rattle.sr1.specs.contracts.settings as settings
+use Rattle.sr1.specs.contracts.session as session
+use Rattle.sr1.specs.contracts.sr1_trustregion as method
+use Rattle.sr1.specs.contracts.in_place as place
 use Rattle.sr1.proofs.Calls.{run_proposes, run_judges}
 
 pub proposes : {s : Session} {r r₂ : After} {a : Answer Proposal} {step trial scratch step₁ trial₁ scratch₁ step₂ trial₂ scratch₂ : List Float}
@@ -29,26 +29,26 @@ judges p q =
 
 pub table : List Line
 table =
-    equation settings.Settings.new.ended (λ M. settings.Settings.new.spec) (λ w κs a g r. refl) (λ κs a s s₂. refl)
-    ∷ equation settings.Settings.of.ended (λ M. settings.Settings.of.spec) (λ w κs a g r. refl) (λ κs a s s₂. refl)
-    ∷ equation settings.Settings.with_allowance.ended (λ M. settings.Settings.with_allowance.spec) (λ w κs a g r. refl) (λ κs a s s₂. refl)
-    ∷ equation settings.Settings.with_edition.ended (λ M. settings.Settings.with_edition.spec) (λ w κs a g r. refl) (λ κs a s s₂. refl)
-    ∷ equation settings.in_range.ended (λ M. settings.in_range.spec) (λ w κs a g r. refl) (λ κs a s s₂. refl)
-    ∷ equation session.sound.ended (λ M. session.sound.spec) (λ w κs a g r. refl) (λ κs a s s₂. refl)
-    ∷ equation method.start.ended (λ M. method.start.spec) (λ w κs a g r. refl) (λ κs a s s₂. refl)
-    ∷ unique method.proposed.ended (λ M. method.proposed.spec) (λ w κs a g r. refl) (λ κs a r r₂ s s₂ p q. let e = proposes p q in (e.0, λ i. tt & tt & tt & tt & tt & e.1 i & e.2 i & e.3 i & tt))
-    ∷ unique method.judged.ended (λ M. method.judged.spec) (λ w κs a g r. refl) (λ κs a r r₂ s s₂ p q. let e = judges p q in (e.0, λ i. tt & tt & tt & tt & e.1 i & tt & tt & e.2 i & e.3 i & e.4 i & tt))
-    ∷ unique place.propose.ended (λ M. place.propose.spec) (λ w κs a g r. refl) (λ κs a r r₂ s s₂ p q. let e = proposes p q in ((λ i. (e.0 i).outcome), λ i. (e.0 i).session & tt & tt & tt & tt & e.1 i & e.2 i & e.3 i & tt))
-    ∷ unique place.answer.ended (λ M. place.answer.spec) (λ w κs a g r. refl) (λ κs a r r₂ s s₂ p q. let e = judges p q in ((λ i. (e.0 i).outcome), λ i. (e.0 i).session & tt & tt & tt & e.1 i & tt & tt & e.2 i & e.3 i & e.4 i & tt))
+    equation settings.Settings.new.ended (λ M 𝓤. settings.Settings.new.spec) (λ w κs a g r. refl) (λ κs a s s₂. refl)
+    ∷ equation settings.Settings.of.ended (λ M 𝓤. settings.Settings.of.spec) (λ w κs a g r. refl) (λ κs a s s₂. refl)
+    ∷ equation settings.Settings.with_allowance.ended (λ M 𝓤. settings.Settings.with_allowance.spec) (λ w κs a g r. refl) (λ κs a s s₂. refl)
+    ∷ equation settings.Settings.with_edition.ended (λ M 𝓤. settings.Settings.with_edition.spec) (λ w κs a g r. refl) (λ κs a s s₂. refl)
+    ∷ equation settings.in_range.ended (λ M 𝓤. settings.in_range.spec) (λ w κs a g r. refl) (λ κs a s s₂. refl)
+    ∷ equation session.sound.ended (λ M 𝓤. session.sound.spec) (λ w κs a g r. refl) (λ κs a s s₂. refl)
+    ∷ equation method.start.ended (λ M 𝓤. method.start.spec) (λ w κs a g r. refl) (λ κs a s s₂. refl)
+    ∷ unique method.proposed.ended (λ M 𝓤. method.proposed.spec) (λ w κs a g r. refl) (λ κs a r r₂ s s₂ p q. let e = proposes p q in (e.0, λ i. tt & tt & tt & tt & tt & e.1 i & e.2 i & e.3 i & tt))
+    ∷ unique method.judged.ended (λ M 𝓤. method.judged.spec) (λ w κs a g r. refl) (λ κs a r r₂ s s₂ p q. let e = judges p q in (e.0, λ i. tt & tt & tt & tt & e.1 i & tt & tt & e.2 i & e.3 i & e.4 i & tt))
+    ∷ unique place.propose.ended (λ M 𝓤. place.propose.spec) (λ w κs a g r. refl) (λ κs a r r₂ s s₂ p q. let e = proposes p q in ((λ i. (e.0 i).outcome), λ i. (e.0 i).session & tt & tt & tt & tt & e.1 i & e.2 i & e.3 i & tt))
+    ∷ unique place.answer.ended (λ M 𝓤. place.answer.spec) (λ w κs a g r. refl) (λ κs a r r₂ s s₂ p q. let e = judges p q in ((λ i. (e.0 i).outcome), λ i. (e.0 i).session & tt & tt & tt & e.1 i & tt & tt & e.2 i & e.3 i & e.4 i & tt))
     ∷ []
 
 -- ---- The calls by `&mut` do what a run has, at the station with the session and the vectors that they were lent.
 
 abbrev answer_contract : Contract place.answer.ended
-answer_contract M = place.answer.spec
+answer_contract M 𝓤 = place.answer.spec
 
 abbrev propose_contract : Contract place.propose.ended
-propose_contract M = place.propose.spec
+propose_contract M 𝓤 = place.propose.spec
 
 abbrev pub Judges_so : Fact place.answer.ended
 Judges_so κs a r left =

@@ -17,7 +17,7 @@ use Rattle.stream.specs.declared.input.Input.{Input}
 use Rattle.stream.specs.declared.input.Word.{Word}
 use Rattle.stream.specs.declared.input.Filled.{Filled}
 use Rattle.unique.proofs.Law.{Line, unique, UniqueIn, unique_in, alike, ◌&◌}
-use Rattle.stream.proofs as stream
+use Rattle.stream.specs.contracts as stream
 
 -- a whole number has one count of digits
 no_fewer : {n k l : ℕ} → IsDigitCount 10 1 n k → IsDigitCount 10 1 n l → k < l → ⊥
@@ -48,17 +48,17 @@ puts (c ∷ cs) e f (one p ps) (one q qs) = let d = put_piece c _ _ _ _ _ _ _ _ 
 
 pub table : List Line
 table =
-    unique stream.start.ended (λ M. stream.start.spec) (λ w κs a g r. refl) (λ κs a r r₂ s s₂ p q. ((λ i. record { at = alike p.0 q.0 i; end = alike p.1 q.1 i }), refl))
-    ∷ unique stream.top.ended (λ M. stream.top.spec) (λ w κs a g r. refl) (λ κs a r r₂ s s₂ p q. ((λ i. record { at = alike p q i }), refl))
-    ∷ unique stream.flush.ended (λ M. stream.flush.spec) (λ w κs a g r. refl) (λ κs a r r₂ s s₂ p q. ((λ i. record { at = alike p q i }), refl))
-    ∷ unique stream.put_text.ended (λ M. stream.put_text.spec) (λ w κs a g r. refl) (λ κs a r r₂ s s₂ p q. ((λ i. record { at = alike p.place q.place i }), λ i. alike p.paper q.paper i & tt & tt & tt))
-    ∷ unique stream.put_number.ended (λ M. stream.put_number.spec) (λ w κs a g r. refl) (λ κs a r r₂ s s₂ p q. ((λ i. record { at = alike p.place q.place i }), λ i. alike p.paper q.paper i & tt & tt & tt))
-    ∷ unique stream.put_whole.ended (λ M. stream.put_whole.spec) (λ w κs a g r. refl) (λ κs a r r₂ s s₂ p q. let e = put_whole refl refl p q in ((λ i. record { at = e.0 i }), λ i. e.1 i & tt & tt & tt))
-    ∷ unique stream.put_blank.ended (λ M. stream.put_blank.spec) (λ w κs a g r. refl) (λ κs a r r₂ s s₂ p q. ((λ i. record { at = alike p.place q.place i }), λ i. alike p.paper q.paper i & tt & tt))
-    ∷ unique stream.put_line_end.ended (λ M. stream.put_line_end.spec) (λ w κs a g r. refl) (λ κs a r r₂ s s₂ p q. ((λ i. record { at = alike p.place q.place i }), λ i. alike p.paper q.paper i & tt & tt))
-    ∷ unique stream.put_refused.ended (λ M. stream.put_refused.spec) (λ w κs a g r. refl) (λ κs a r r₂ s s₂ p q. let e = puts _ refl refl p q in ((λ i. record { at = e.0 i }), λ i. e.1 i & tt & tt & tt))
-    ∷ unique stream.put_named.ended (λ M. stream.put_named.spec) (λ w κs a g r. refl) (λ κs a r r₂ s s₂ p q. let e = puts _ refl refl p q in ((λ i. record { at = e.0 i }), λ i. e.1 i & tt & tt & tt & tt))
-    ∷ unique stream.put_list.ended (λ M. stream.put_list.spec) (λ w κs a g r. refl) (λ κs a r r₂ s s₂ p q. let e = puts _ refl refl p q in ((λ i. record { at = e.0 i }), λ i. e.1 i & tt & tt & tt & tt))
+    unique stream.start.ended (λ M 𝓤. stream.start.spec) (λ w κs a g r. refl) (λ κs a r r₂ s s₂ p q. ((λ i. record { at = alike p.0 q.0 i; end = alike p.1 q.1 i }), refl))
+    ∷ unique stream.top.ended (λ M 𝓤. stream.top.spec) (λ w κs a g r. refl) (λ κs a r r₂ s s₂ p q. ((λ i. record { at = alike p q i }), refl))
+    ∷ unique stream.flush.ended (λ M 𝓤. stream.flush.spec) (λ w κs a g r. refl) (λ κs a r r₂ s s₂ p q. ((λ i. record { at = alike p q i }), refl))
+    ∷ unique stream.put_text.ended (λ M 𝓤. stream.put_text.spec) (λ w κs a g r. refl) (λ κs a r r₂ s s₂ p q. ((λ i. record { at = alike p.place q.place i }), λ i. alike p.paper q.paper i & tt & tt & tt))
+    ∷ unique stream.put_number.ended (λ M 𝓤. stream.put_number.spec) (λ w κs a g r. refl) (λ κs a r r₂ s s₂ p q. ((λ i. record { at = alike p.place q.place i }), λ i. alike p.paper q.paper i & tt & tt & tt))
+    ∷ unique stream.put_whole.ended (λ M 𝓤. stream.put_whole.spec) (λ w κs a g r. refl) (λ κs a r r₂ s s₂ p q. let e = put_whole refl refl p q in ((λ i. record { at = e.0 i }), λ i. e.1 i & tt & tt & tt))
+    ∷ unique stream.put_blank.ended (λ M 𝓤. stream.put_blank.spec) (λ w κs a g r. refl) (λ κs a r r₂ s s₂ p q. ((λ i. record { at = alike p.place q.place i }), λ i. alike p.paper q.paper i & tt & tt))
+    ∷ unique stream.put_line_end.ended (λ M 𝓤. stream.put_line_end.spec) (λ w κs a g r. refl) (λ κs a r r₂ s s₂ p q. ((λ i. record { at = alike p.place q.place i }), λ i. alike p.paper q.paper i & tt & tt))
+    ∷ unique stream.put_refused.ended (λ M 𝓤. stream.put_refused.spec) (λ w κs a g r. refl) (λ κs a r r₂ s s₂ p q. let e = puts _ refl refl p q in ((λ i. record { at = e.0 i }), λ i. e.1 i & tt & tt & tt))
+    ∷ unique stream.put_named.ended (λ M 𝓤. stream.put_named.spec) (λ w κs a g r. refl) (λ κs a r r₂ s s₂ p q. let e = puts _ refl refl p q in ((λ i. record { at = e.0 i }), λ i. e.1 i & tt & tt & tt & tt))
+    ∷ unique stream.put_list.ended (λ M 𝓤. stream.put_list.spec) (λ w κs a g r. refl) (λ κs a r r₂ s s₂ p q. let e = puts _ refl refl p q in ((λ i. record { at = e.0 i }), λ i. e.1 i & tt & tt & tt & tt))
     ∷ []
 
 -- ---- what reads the room: one result while the room has what is asked for, and so the system is not asked
@@ -68,7 +68,7 @@ module _ (room room₁ room₂ : List ℕ) (i : Input) where
   unfolding Next next_by
   next w₁ w₂ e p q = let a = rw e at p in let b = rw e at q in (alike a.found b.found, alike a.kept b.kept)
 
-pub next_word : UniqueIn stream.next_word.ended (λ κs a r r₂ s s₂. ltb a.1.0.at a.1.0.end ≡ true → (r ≡ r₂) × (s ≡ s₂)) (λ M. stream.next_word.spec)
+pub next_word : UniqueIn stream.next_word.ended (λ κs a r r₂ s s₂. ltb a.1.0.at a.1.0.end ≡ true → (r ≡ r₂) × (s ≡ s₂)) (λ M 𝓤. stream.next_word.spec)
 next_word = unique_in (λ w κs a g r. refl) (λ κs a r r₂ s s₂ p q e. let d = next _ _ _ _ r r₂ e p q in (d.0, λ i. d.1 i & tt & tt))
 
 -- also where there is no place to put them
@@ -80,5 +80,5 @@ filled : {room room₁ room₂ : List ℕ} {i : Input} {out out₁ out₂ : List
 filled (inl h) p q = let a = p.long h in let b = q.long h in (alike a.refused b.refused, alike a.kept b.kept, alike a.left b.left)
 filled (inr h) p q = let a = p.whole h.0 h.1 in let b = q.whole h.0 h.1 in (alike a.place b.place, alike a.kept b.kept, alike a.read b.read)
 
-pub numbers : UniqueIn stream.numbers.ended (λ κs a r r₂ s s₂. At_hand a.1.0 a.1.1.0.now a.1.1.1.0 → (r ≡ r₂) × (s ≡ s₂)) (λ M. stream.numbers.spec)
+pub numbers : UniqueIn stream.numbers.ended (λ κs a r r₂ s s₂. At_hand a.1.0 a.1.1.0.now a.1.1.1.0 → (r ≡ r₂) × (s ≡ s₂)) (λ M 𝓤. stream.numbers.spec)
 numbers = unique_in (λ w κs a g r. refl) (λ κs a r r₂ s s₂ p q h. let d = filled h p q in (d.0, λ i. d.1 i & tt & d.2 i & tt & tt))

@@ -11,10 +11,10 @@ use Rattle.trustregion.specs.Run.{propose, cost, derivatives, outcome, respond}
 use Rattle.trustregion.specs.declared.session.Session.{Session}
 use Rattle.trustregion.specs.declared.session.After.{After}
 use Rattle.unique.proofs.Law.{Contract, Fact, States, states, Line, unique, equation, alike, ◌&◌}
-use Rattle.trustregion.proofs.settings as settings
-use Rattle.trustregion.proofs.session as session
-use Rattle.trustregion.proofs.trustregion_method as method
-use Rattle.trustregion.proofs.in_place as place
+use Rattle.trustregion.specs.contracts.settings as settings
+use Rattle.trustregion.specs.contracts.session as session
+use Rattle.trustregion.specs.contracts.trustregion_method as method
+use Rattle.trustregion.specs.contracts.in_place as place
 use Rattle.trustregion.proofs.Calls.{run_proposes, run_judges, run_renews}
 
 pub proposes : {s : Session} {r r₂ : After} {a : Answer Proposal} {step trial scratch step₁ trial₁ scratch₁ step₂ trial₂ scratch₂ : List Float}
@@ -30,30 +30,30 @@ renews p q = (alike p.says q.says, alike p.leaves_gradient q.leaves_gradient, al
 
 pub table : List Line
 table =
-    equation settings.Settings.new.ended (λ M. settings.Settings.new.spec) (λ w κs a g r. refl) (λ κs a s s₂. refl)
-    ∷ equation settings.Settings.of.ended (λ M. settings.Settings.of.spec) (λ w κs a g r. refl) (λ κs a s s₂. refl)
-    ∷ equation settings.Settings.with_allowance.ended (λ M. settings.Settings.with_allowance.spec) (λ w κs a g r. refl) (λ κs a s s₂. refl)
-    ∷ equation settings.in_range.ended (λ M. settings.in_range.spec) (λ w κs a g r. refl) (λ κs a s s₂. refl)
-    ∷ equation session.sound.ended (λ M. session.sound.spec) (λ w κs a g r. refl) (λ κs a s s₂. refl)
-    ∷ equation method.start.ended (λ M. method.start.spec) (λ w κs a g r. refl) (λ κs a s s₂. refl)
-    ∷ unique method.proposed.ended (λ M. method.proposed.spec) (λ w κs a g r. refl) (λ κs a r r₂ s s₂ p q. let e = proposes p q in (e.0, λ i. tt & tt & tt & tt & tt & e.1 i & e.2 i & e.3 i & tt))
-    ∷ unique method.judged.ended (λ M. method.judged.spec) (λ w κs a g r. refl) (λ κs a r r₂ s s₂ p q. let e = judges p q in (e.0, λ i. tt & tt & tt & e.1 i & tt & tt))
-    ∷ unique method.renewed.ended (λ M. method.renewed.spec) (λ w κs a g r. refl) (λ κs a r r₂ s s₂ p q. let e = renews p q in (e.0, λ i. tt & tt & tt & tt & e.1 i & e.2 i & tt))
-    ∷ unique place.propose.ended (λ M. place.propose.spec) (λ w κs a g r. refl) (λ κs a r r₂ s s₂ p q. let e = proposes p q in ((λ i. (e.0 i).outcome), λ i. (e.0 i).session & tt & tt & tt & tt & e.1 i & e.2 i & e.3 i & tt))
-    ∷ unique place.answer_cost.ended (λ M. place.answer_cost.spec) (λ w κs a g r. refl) (λ κs a r r₂ s s₂ p q. let e = judges p q in ((λ i. (e.0 i).outcome), λ i. (e.0 i).session & tt & tt & e.1 i & tt & tt))
-    ∷ unique place.answer_derivatives.ended (λ M. place.answer_derivatives.spec) (λ w κs a g r. refl) (λ κs a r r₂ s s₂ p q. let e = renews p q in ((λ i. (e.0 i).outcome), λ i. (e.0 i).session & tt & tt & tt & e.1 i & e.2 i & tt))
+    equation settings.Settings.new.ended (λ M 𝓤. settings.Settings.new.spec) (λ w κs a g r. refl) (λ κs a s s₂. refl)
+    ∷ equation settings.Settings.of.ended (λ M 𝓤. settings.Settings.of.spec) (λ w κs a g r. refl) (λ κs a s s₂. refl)
+    ∷ equation settings.Settings.with_allowance.ended (λ M 𝓤. settings.Settings.with_allowance.spec) (λ w κs a g r. refl) (λ κs a s s₂. refl)
+    ∷ equation settings.in_range.ended (λ M 𝓤. settings.in_range.spec) (λ w κs a g r. refl) (λ κs a s s₂. refl)
+    ∷ equation session.sound.ended (λ M 𝓤. session.sound.spec) (λ w κs a g r. refl) (λ κs a s s₂. refl)
+    ∷ equation method.start.ended (λ M 𝓤. method.start.spec) (λ w κs a g r. refl) (λ κs a s s₂. refl)
+    ∷ unique method.proposed.ended (λ M 𝓤. method.proposed.spec) (λ w κs a g r. refl) (λ κs a r r₂ s s₂ p q. let e = proposes p q in (e.0, λ i. tt & tt & tt & tt & tt & e.1 i & e.2 i & e.3 i & tt))
+    ∷ unique method.judged.ended (λ M 𝓤. method.judged.spec) (λ w κs a g r. refl) (λ κs a r r₂ s s₂ p q. let e = judges p q in (e.0, λ i. tt & tt & tt & e.1 i & tt & tt))
+    ∷ unique method.renewed.ended (λ M 𝓤. method.renewed.spec) (λ w κs a g r. refl) (λ κs a r r₂ s s₂ p q. let e = renews p q in (e.0, λ i. tt & tt & tt & tt & e.1 i & e.2 i & tt))
+    ∷ unique place.propose.ended (λ M 𝓤. place.propose.spec) (λ w κs a g r. refl) (λ κs a r r₂ s s₂ p q. let e = proposes p q in ((λ i. (e.0 i).outcome), λ i. (e.0 i).session & tt & tt & tt & tt & e.1 i & e.2 i & e.3 i & tt))
+    ∷ unique place.answer_cost.ended (λ M 𝓤. place.answer_cost.spec) (λ w κs a g r. refl) (λ κs a r r₂ s s₂ p q. let e = judges p q in ((λ i. (e.0 i).outcome), λ i. (e.0 i).session & tt & tt & e.1 i & tt & tt))
+    ∷ unique place.answer_derivatives.ended (λ M 𝓤. place.answer_derivatives.spec) (λ w κs a g r. refl) (λ κs a r r₂ s s₂ p q. let e = renews p q in ((λ i. (e.0 i).outcome), λ i. (e.0 i).session & tt & tt & tt & e.1 i & e.2 i & tt))
     ∷ []
 
 -- ---- The calls by `&mut` do what a run has, at a station with the session and the vectors that they were lent; the others are any.
 
 abbrev propose_contract : Contract place.propose.ended
-propose_contract M = place.propose.spec
+propose_contract M 𝓤 = place.propose.spec
 
 abbrev cost_contract : Contract place.answer_cost.ended
-cost_contract M = place.answer_cost.spec
+cost_contract M 𝓤 = place.answer_cost.spec
 
 abbrev derivatives_contract : Contract place.answer_derivatives.ended
-derivatives_contract M = place.answer_derivatives.spec
+derivatives_contract M 𝓤 = place.answer_derivatives.spec
 
 abbrev pub Proposes_so : Fact place.propose.ended
 Proposes_so κs a r left =
