@@ -1,0 +1,75 @@
+// An SR1 session in lists.
+ghost use Rattle.std.specs.Prelude.{◌≡◌};
+ghost use Rattle.sr1.specs.Settings.{chosen};
+ghost use Rattle.sr1.specs.Session.{proposal, judgement};
+ghost use Rattle.sr1.specs.Calls.{Proposes, Judges};
+ghost use Rattle.foreign_sessions.specs.Lists.{told};
+ghost use Rattle.foreign_sessions.specs.Sr1.{session_in, starts, Driven};
+
+#[unsafe(no_mangle)]
+pub extern "C" fn mboyaxin_sr1_start(
+    words: &mut [u64; 10],
+    numbers: &mut [f64; 6],
+    settings: &[f64; 4],
+) -> u64
+    ensures { told result words.new numbers.new ≡ starts words.old numbers.old settings.now }
+{
+    foreign_sessions::sr1_session::mboyaxin_sr1_start(words, numbers, settings)
+}
+
+#[unsafe(no_mangle)]
+pub extern "C" fn mboyaxin_sr1_propose(
+    words: &mut [u64; 10],
+    numbers: &mut [f64; 6],
+    settings: &[f64; 4],
+    n: usize,
+    point: &[f64],
+    gradient: &[f64],
+    hessian: &[f64],
+    step: &mut [f64],
+    trial: &mut [f64],
+    scratch: &mut [f64],
+) -> u64
+    ensures { Driven words.old numbers.old settings.now (λ s after. Proposes (proposal chosen s n point.now gradient.now hessian.now step.old trial.old scratch.old)
+        s step.old trial.old scratch.old after step.new trial.new scratch.new)
+        (told result words.new numbers.new) }
+{
+    foreign_sessions::sr1_session::mboyaxin_sr1_propose(
+        words, numbers, settings, n, point, gradient, hessian, step, trial, scratch,
+    )
+}
+
+#[unsafe(no_mangle)]
+pub extern "C" fn mboyaxin_sr1_answer(
+    words: &mut [u64; 10],
+    numbers: &mut [f64; 6],
+    settings: &[f64; 4],
+    n: usize,
+    cost: f64,
+    new_gradient: &[f64],
+    point: &mut [f64],
+    step: &[f64],
+    trial: &[f64],
+    gradient: &mut [f64],
+    hessian: &mut [f64],
+    scratch: &mut [f64],
+) -> u64
+    ensures { Driven words.old numbers.old settings.now (λ s after. Judges (judgement s n cost new_gradient.now point.old step.now trial.now gradient.old hessian.old scratch.old)
+        s point.old gradient.old hessian.old scratch.old after point.new gradient.new hessian.new scratch.new)
+        (told result words.new numbers.new) }
+{
+    foreign_sessions::sr1_session::mboyaxin_sr1_answer(
+        words,
+        numbers,
+        settings,
+        n,
+        cost,
+        new_gradient,
+        point,
+        step,
+        trial,
+        gradient,
+        hessian,
+        scratch,
+    )
+}
