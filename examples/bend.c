@@ -1,7 +1,7 @@
 /* A fit from C: the bend a·t / (b + t·t) of a knee, fitted to what the cameras saw at four times. Trial by trial the session proposes a point,
    the laboratory answers with the cost there, and, where it was accepted, with the derivatives.
 
-       rt staticlib foreign_sessions
+       ./archive foreign_sessions
        cc -I include examples/bend.c target/staticlib/libforeign_sessions.a -lm -o target/bend && target/bend */
 
 #include "mboyaxin.h"

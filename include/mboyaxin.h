@@ -1,4 +1,4 @@
-/* The solvers for C: crates/foreign and crates/foreign_sessions, built by `rt staticlib` for x86-64 Linux.
+/* The solvers for C: crates/foreign and crates/foreign_sessions, built by `./archive` for x86-64 Linux.
 
    A list is a pointer and behind it its length. Vectors have n entries, n from 1 to 64; matrices n·n, by rows; the scratch 2·n·n + 8·n, each
    exactly. No two lists of a call may overlap if one of them is written.
