@@ -7,7 +7,7 @@ ghost use Rattle.std.specs.Float.Ieee.{of_bits, to_bits};
 ghost use Rattle.float.specs.Numbers as Numbers;
 ghost use Rattle.root.specs.Root as Root;
 ghost use Rattle.vectors.specs.Vector as Vector;
-ghost use Rattle.vectors.specs.Calls.{tells, dot_answer, norm_answer, weighted_answer, product_answer};
+ghost use Rattle.vectors.specs.Calls.{dot_answer, norm_answer, weighted_answer, product_answer};
 ghost use Rattle.kernels.specs.Ratio.{reduction_ratio};
 ghost use Rattle.kernels.specs.Kernel.{called, bounded};
 ghost use Rattle.kernels.specs.CauchyPoint.{cauchy_point};
@@ -15,7 +15,6 @@ ghost use Rattle.kernels.specs.Dogleg.{dogleg};
 ghost use Rattle.kernels.specs.Textbook.{textbook_dogleg};
 ghost use Rattle.kernels.specs.Steihaug.{steihaug};
 ghost use Rattle.kernels.specs.Inverse.{inverse_answer};
-ghost use Rattle.foreign.specs.Foreign as Foreign;
 ghost use Rattle.foreign.specs.Foreign.{Numbered, Filled, Cleared};
 
 #[unsafe(no_mangle)]

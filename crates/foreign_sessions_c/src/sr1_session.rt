@@ -4,7 +4,7 @@ ghost use Rattle.sr1.specs.Settings.{chosen};
 ghost use Rattle.sr1.specs.Session.{proposal, judgement};
 ghost use Rattle.sr1.specs.Calls.{Proposes, Judges};
 ghost use Rattle.foreign_sessions.specs.Lists.{told};
-ghost use Rattle.foreign_sessions.specs.Sr1.{session_in, starts, Driven};
+ghost use Rattle.foreign_sessions.specs.Sr1.{starts, Driven};
 
 #[unsafe(no_mangle)]
 pub extern "C" fn mboyaxin_sr1_start(

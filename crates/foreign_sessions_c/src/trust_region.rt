@@ -4,7 +4,7 @@ ghost use Rattle.trustregion.specs.Settings.{chosen};
 ghost use Rattle.trustregion.specs.Session.{proposal, judgement, renewal};
 ghost use Rattle.trustregion.specs.Calls.{Proposes, Judges, Renews};
 ghost use Rattle.foreign_sessions.specs.Lists.{told};
-ghost use Rattle.foreign_sessions.specs.TrustRegion.{session_in, starts, Driven};
+ghost use Rattle.foreign_sessions.specs.TrustRegion.{starts, Driven};
 
 #[unsafe(no_mangle)]
 pub extern "C" fn mboyaxin_trustregion_start(
