@@ -1,5 +1,4 @@
 pub mod Standing
 pub mod Starts
 pub mod Calls
-pub mod Fronts
 pub mod Encoded

@@ -1,5 +1,5 @@
 -- Words at their places. Definitions only.
-use Rattle.std.specs.Prelude.{◌≡◌, List, ℕ, ◌≤◌, get_or, Float}
+use Rattle.std.specs.Prelude.{List, ℕ, get_or, Float}
 use Rattle.std.specs.Float.{binary64}
 use Rattle.std.specs.Float.Ieee.{of_bits}
 use Rattle.vectors.specs.Vector.{tab}
@@ -15,8 +15,3 @@ number words i = of_bits binary64 (word words i)
 unfoldable pub numbers : List ℕ → (k : ℕ) → List Float
 unfolding tab
 numbers words k = tab k (number words)
-
--- of so many words that are there none is too many, unless one of them may not stand there
-pub data Reaches (want len : ℕ) : Type 0 where
-  odd : want ≡ 0 → Reaches want len
-  within : len ≤ want → Reaches want len
