@@ -79,6 +79,7 @@ fn enough(gradient: usize, hessian: usize, step: usize, scratch: usize) -> bool
 }
 
 // Whether so many bytes are the words of a case of size n.
+#[tactic(auto, using(vectors::proofs::Sizes::square_small), unfolding(vectors::specs::Refusal::size))]
 fn fits(bytes: usize, n: usize) -> bool
     ensures { result ≡ Case.fits bytes n }
 {

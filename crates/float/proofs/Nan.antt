@@ -76,3 +76,8 @@ no_nan_bits n h = subst (λ (b : Bool). T (not b)) (sym (nan_bits_above binary64
 -- and one above it is
 pub nan_bits_lem : (n : ℕ) → 0x7ff0_0000_0000_0000 < n % 0x8000_0000_0000_0000 → of_bits binary64 n ≡ nan
 nan_bits_lem n h = is_nan_lem (of_bits binary64 n) (sym (nan_bits_is binary64 n) ∙ nan_bits_above binary64 n ∙ lt-ltb 0x7ff0_0000_0000_0000 (n % 0x8000_0000_0000_0000) h)
+
+-- 0/0, where a pattern is a NaN's
+pub nan_made : (n : ℕ) → 0x7ff0_0000_0000_0000 < n % 0x8000_0000_0000_0000 → div binary64 (of_bits binary64 0) (of_bits binary64 0) ≡ of_bits binary64 n
+unfolding div of_bits
+nan_made n h = sym (nan_bits_lem n h)

@@ -41,6 +41,7 @@ pub fn magnitude(x: f64) -> f64
 }
 
 // Rust's x.min(y) for an x that is no NaN.
+#[tactic(auto, unfolding(crate::specs::Numbers::smaller))]
 pub fn smaller(x: f64, y: f64) -> f64
     ensures { result ≡ Numbers.smaller x y }
 {
@@ -59,6 +60,7 @@ pub fn one_nan(x: f64) -> f64
 }
 
 // The f64 of a bit pattern: the one NaN for every NaN's.
+#[tactic(auto, using(crate::proofs::Nan::nan_made, crate::proofs::Nan::no_nan_bits))]
 pub fn float_of(bits: u64) -> f64
     ensures { result ≡ of_bits binary64 bits }
 {

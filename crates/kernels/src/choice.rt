@@ -54,6 +54,7 @@ impl Choice {
 }
 
 // One of the numbers from 1 to the last.
+#[tactic(auto, unfolding(crate::specs::Choice::among))]
 fn among(number: u64, last: u64) -> bool
     ensures { result ≡ Definition.among number last }
 {
@@ -82,6 +83,7 @@ pub fn in_range(choice: Choice) -> bool
 }
 
 // What a kernel that is called directly asks of it: only Steihaug looks at epsilon and the limit.
+#[tactic(auto, unfolding(crate::specs::Choice::asked))]
 fn asked(choice: Choice) -> bool
     ensures { result ≡ Definition.asked choice }
 {

@@ -19,6 +19,7 @@ pub enum Stepped {
 }
 
 // Finite, and above zero.
+#[tactic(auto, unfolding(crate::specs::Kernel::positive))]
 pub fn positive(x: f64) -> bool
     ensures { result ≡ Kernel.positive x }
 {

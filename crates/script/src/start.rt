@@ -71,6 +71,7 @@ fn whole(head: usize, more: u64, n: usize) -> usize
 }
 
 // Whether the first two words may stand there.
+#[tactic(auto, unfolding(crate::specs::Start::begins))]
 fn begins(words: &[u64]) -> bool
     ensures { result ≡ Definition.begins words.now }
 {

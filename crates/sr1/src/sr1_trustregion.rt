@@ -142,6 +142,7 @@ fn fall_ratio(before: f64, cost: f64, predicted: f64) -> f64
 }
 
 // A NaN ratio passes no test: it halves the radius.
+#[tactic(auto, unfolding(crate::specs::Session::next_radius))]
 fn next_radius(ratio: f64, norm: f64, radius: f64) -> f64
     ensures { result ≡ next_radius ratio norm radius }
 {
@@ -195,6 +196,7 @@ fn book_rule(factor: f64, norm: f64, z_norm: f64, q: f64) -> bool
 }
 
 // Whether the Hessian is updated: the one place that asks for the edition.
+#[tactic(auto, using(crate::proofs::Hessians::by_first, crate::proofs::Hessians::by_other))]
 fn updates(settings: Settings, norm: f64, z: &[f64], q: f64) -> bool
     ensures { result ≡ Definition.updates settings norm z.now q }
 {

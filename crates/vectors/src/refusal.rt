@@ -72,6 +72,7 @@ pub fn all_hold(tests: &[bool]) -> bool
 }
 
 // n is 1 to 64.
+#[tactic(auto, unfolding(crate::specs::Refusal::size))]
 pub fn size(n: usize) -> bool
     ensures { result ≡ Table.size n }
 {
