@@ -8,8 +8,7 @@ pub write-requires : goal.write-requires
 write-requires c = leb-true _ _ (cc)
 
 pub returns-then-has_room : goal.returns-then-has_room
-returns-then-has_room c = let tested = c.before.before.before.before in
-    record { value = sym tested.if-has_room.true ∙ tested.has_room.ensures; bytes_after = c.write.ensures }
+returns-then-has_room c = record { value = sym c.if-has_room.true ∙ c.has_room.ensures; bytes_after = c.write.ensures }
 
 pub returns : goal.returns
 returns c = let unfit = sym c.if-has_room.false ∙ c.has_room.ensures in

@@ -10,5 +10,4 @@ whole_at-requires c = leb-true _ _ (cc)
 pub returns : goal.returns
 unfolding singly
 returns c =
-    let start = c.before.before.before.before.before.before.before.before.before.before.before.before in
-    cc (word_eight start.args.bytes.now start.args.at, add-zero start.args.at)
+    cc (word_eight c.args.bytes.now c.args.at, add-zero c.args.at)

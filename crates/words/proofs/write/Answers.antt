@@ -23,10 +23,9 @@ bounds-bytes-at c =
 
 pub loop-i-preserved : goal.loop-i-preserved
 loop-i-preserved c =
-    let start = c.before.before.before in
     let i = c.loop-i.i in
-    let below : start.args.at + i < length start.args.bytes.now = omega arith in
-    (omega arith, rw (c.loop-i.invariant.1, add-one i) (paste-suc start.args.bytes.now start.args.at start.args.text.now i 0 below c.loop-i-test.true))
+    let below : c.args.at + i < length c.args.bytes.now = omega arith in
+    (omega arith, rw (c.loop-i.invariant.1, add-one i) (paste-suc c.args.bytes.now c.args.at c.args.text.now i 0 below c.loop-i-test.true))
 
 pub shape_of-bytes : goal.shape_of-bytes
 shape_of-bytes c =

@@ -24,7 +24,7 @@ pub loop-i-init : goal.loop-i-init
 loop-i-init c = (search rules, refl)
 
 pub loop-i-preserved : goal.loop-i-preserved
-loop-i-preserved c = let l = c.before.before.before in (search rules, more l.args.tests.now l.loop-i.i l.loop-i.all l.loop-i.invariant.1 _ (search rules) c.both-all.ensures)
+loop-i-preserved c = (search rules, more c.args.tests.now c.loop-i.i c.loop-i.all c.loop-i.invariant.1 _ (search rules) c.both-all.ensures)
 
 pub returns : goal.returns
 returns c = done _ c.loop-i.i c.loop-i.all c.loop-i.invariant.1 c.loop-i-test.false

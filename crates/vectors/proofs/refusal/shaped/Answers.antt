@@ -10,4 +10,4 @@ pub overflow_mul-n : goal.overflow_mul-n
 overflow_mul-n c = omega (arith, size_small _ (passed c.size.ensures c.if-not-size.false))
 
 pub returns : goal.returns
-returns c = let right = c.before.before in rw (passed right.size.ensures right.if-not-size.false) c.all_hold.ensures
+returns c = rw (passed c.size.ensures c.if-not-size.false) c.all_hold.ensures

@@ -31,8 +31,7 @@ loop-i-init c = (search rules, refl)
 
 pub loop-i-preserved : goal.loop-i-preserved
 loop-i-preserved c =
-    let l = c.before.before.before.before in
-    (search rules, more l.args.v.now l.loop-i.i l.loop-i.all l.loop-i.invariant.1 _ _ (search rules) c.finite.ensures c.both-all.ensures)
+    (search rules, more c.args.v.now c.loop-i.i c.loop-i.all c.loop-i.invariant.1 _ _ (search rules) c.finite.ensures c.both-all.ensures)
 
 pub returns : goal.returns
 returns c = done _ c.loop-i.i c.loop-i.all c.loop-i.invariant.1 c.loop-i-test.false

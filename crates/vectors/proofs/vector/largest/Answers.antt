@@ -46,18 +46,15 @@ loop-i-init c = (search rules, refl)
 
 pub loop-i-preserved : goal.loop-i-preserved
 loop-i-preserved c =
-    let r = c.before in
-    let l = r.before.before.before in
-    let v = l.args.v.now in (
+    let v = c.args.v.now in (
       search rules,
       elim c.if-top-bits.branch [
-        | then-top-bits w ↦ taken v c.type_inv.v l.loop-i.i l.loop-i.top r.bits_of-bits.result l.loop-i.invariant.1 r.bits_of-bits.ensures c.if-top-bits.top w.top-is (omega arith)
-        | else-top-bits w ↦ left v c.type_inv.v l.loop-i.i l.loop-i.top r.bits_of-bits.result l.loop-i.invariant.1 r.bits_of-bits.ensures c.if-top-bits.top w.top-is (omega arith)
+        | then-top-bits w ↦ taken v c.type_inv.v c.loop-i.i c.loop-i.top c.bits_of-bits.result c.loop-i.invariant.1 c.bits_of-bits.ensures c.if-top-bits.top w.top-is (omega arith)
+        | else-top-bits w ↦ left v c.type_inv.v c.loop-i.i c.loop-i.top c.bits_of-bits.result c.loop-i.invariant.1 c.bits_of-bits.ensures c.if-top-bits.top w.top-is (omega arith)
       ],
     )
 
 pub returns : goal.returns
 returns c =
-    let l = c.before.before in
-    let v = l.args.v.now in
-    done v c.type_inv.v l.loop-i.i l.loop-i.top c.float_of.result (omega arith) l.loop-i.invariant.1 c.float_of.ensures
+    let v = c.args.v.now in
+    done v c.type_inv.v c.loop-i.i c.loop-i.top c.float_of.result (omega arith) c.loop-i.invariant.1 c.float_of.ensures

@@ -5,7 +5,7 @@ use Rattle.vectors.proofs.Sizes.{failed, passed}
 use Rattle.vectors.proofs.vector.norm.Goals as goal
 
 pub returns-then-not-all_hold : goal.returns-then-not-all_hold
-returns-then-not-all_hold c = let tested = c.before in rw (failed (rw tested.size.ensures at tested.all_hold.ensures) c.if-not-all_hold.true)
+returns-then-not-all_hold c = rw (failed (rw c.size.ensures at c.all_hold.ensures) c.if-not-all_hold.true)
 
 pub returns : goal.returns
-returns c = let tested = c.before.before in rw (passed (rw tested.size.ensures at tested.all_hold.ensures) c.if-not-all_hold.false) (ap given c.norm_any.ensures)
+returns c = rw (passed (rw c.size.ensures at c.all_hold.ensures) c.if-not-all_hold.false) (ap given c.norm_any.ensures)

@@ -6,5 +6,5 @@ use Rattle.vectors.proofs.vector.row_dot.Goals as goal
 
 pub returns : goal.returns
 returns c =
-    let the_row : let a = c.args in c.row.result.now ≡ row a.n a.h.now a.i = let s = c.before.before.before in c.row.ensures ∙ row_good _ _ _ s.requires.0 s.requires.1 in
+    let the_row : let a = c.args in c.row.result.now ≡ row a.n a.h.now a.i = c.row.ensures ∙ row_good _ _ _ c.requires.0 c.requires.1 in
     c.dot_any.ensures ∙ rw (the_row)

@@ -17,9 +17,8 @@ loop-i-init c = filling_none (search rules)
 pub loop-k-init : goal.loop-k-init
 unfolding dot_to
 loop-k-init c =
-    let s = c.before.before.before.before.before.before in
-    let is = c.row-part.ensures ∙ row_good _ _ _ s.requires.0 c.loop-i-test.true in
-    (search rules, is, rw is (length_row _ _ _ s.requires.0 c.loop-i-test.true), refl)
+    let is = c.row-part.ensures ∙ row_good _ _ _ c.requires.0 c.loop-i-test.true in
+    (search rules, is, rw is (length_row _ _ _ c.requires.0 c.loop-i-test.true), refl)
 
 pub loop-k-preserved : goal.loop-k-preserved
 unfolding dot_to

@@ -12,8 +12,8 @@ loop-i-init c = (search rules, refl)
 
 pub loop-i-preserved : goal.loop-i-preserved
 unfolding dot_to
-loop-i-preserved c = let l = c.before.before.before in (search rules, weighted_more _ _ _ _ l.loop-i.i _ _ c.loop-i-test.true l.loop-i.invariant.1 c.row_dot.ensures)
+loop-i-preserved c = (search rules, weighted_more _ _ _ _ c.loop-i.i _ _ c.loop-i-test.true c.loop-i.invariant.1 c.row_dot.ensures)
 
 pub returns : goal.returns
 unfolding dot_to
-returns c = let s = c.before.before.before.before.before in weighted_done _ _ _ _ c.loop-i.i _ (omega (arith, s.requires.1)) c.loop-i.invariant.1
+returns c = weighted_done _ _ _ _ c.loop-i.i _ (omega (arith, c.requires.1)) c.loop-i.invariant.1
