@@ -6,11 +6,13 @@ use Prim.Native.Nat.{ℕ, ◌+◌, ◌*◌, ◌<◌, ◌≤◌}
 use native.Mathlib.Nat.{mul-le-mul_right}
 use native.Mathlib.Omega.{arith}
 use lib.Dec.{eqb, leb}
+use Rattle.std.specs.Prelude.{Ok}
+use Rattle.vectors.specs.declared.refusal.Refusal.{Refusal}
 use lib.ListN.{length}
 use lib.Ieee.{Float}
 use borrow.Author.Tests.{eqb-true, leb-true, le-leb, lt-ltb, eq-eqb}
 use Rattle.vectors.specs.Vector.{row}
-use Rattle.vectors.specs.Refusal.{all_hold, size, Square}
+use Rattle.vectors.specs.Refusal.{checked, all_hold, size, Square}
 use Rattle.vectors.specs.Calls.{row_part}
 use Rattle.vectors.proofs.Slots.{before, length_slot}
 
@@ -20,6 +22,11 @@ failed e h = sym e ∙ h
 
 pub passed : {r t : Bool} → r ≡ t → r ≡ true → t ≡ true
 passed e h = sym e ∙ h
+
+-- what was asked by `?` was right
+pub was_right : (r : Refusal) (b : Bool) {u : Unit {0}} → Ok u ≡ checked r b → b ≡ true
+was_right r true e = refl
+was_right r false e = cc
 
 pub both : (a b : Bool) → (a && b) ≡ true → (a ≡ true) × (b ≡ true)
 both true b e = (refl, e)

@@ -1,16 +1,17 @@
 -- Laws of tabulated vectors. Assumes nothing.
 use mathlib.Core.Path.{◌≡◌, refl, sym, ◌∙◌, ap}
-use mathlib.Core.List.{List}
-use Prim.Native.Nat.{ℕ, zero, suc, ◌+◌, ◌<◌, ◌≤◌}
+use mathlib.Core.List.{List, ◌∷◌}
+use Prim.Native.Nat.{ℕ, zero, suc, ◌+◌, ◌-◌, ◌<◌, ◌≤◌}
 use native.Mathlib.Numerals.{add-one}
 use native.Mathlib.Nat.{not-suc-le-zero, le_of_suc-le-suc}
 use native.Mathlib.Omega.{arith}
-use lib.ListN.{length, get_or-eq_default}
-use lib.Seq.{ext_get_or}
+use lib.ListN.{length, replicate, drop, length-drop, get_or-eq_default}
+use lib.Seq.{ext_get_or, drop-cons}
 use lib.Ieee.{Float, nan}
 use Rattle.float.specs.Numbers.{◌⊕◌, ◌⊗◌}
+use Rattle.float.specs.Constants.{nought}
 use Rattle.float.proofs.Nan.{add_nan, mul_nan}
-use Rattle.vectors.specs.Vector.{at, tab, dot_to, dot, times_at, times, weighted, plus, scale}
+use Rattle.vectors.specs.Vector.{at, tab, zeros, dot_to, dot, times_at, times, weighted, plus, scale}
 
 pub length_tab : (n : ℕ) (f : ℕ → Float) → length (tab n f) ≡ n
 unfolding tab
@@ -32,6 +33,12 @@ pub tab_same : (n : ℕ) (f g : ℕ → Float) → ((i : ℕ) → i < n → f i 
 tab_same n f g h =
     ext_get_or nan (tab n f) (tab n g) (length_tab n f ∙ sym (length_tab n g))
     (λ i l. let small : i < n = omega (arith, l, length_tab n f) in at_tab n f i small ∙ h i small ∙ sym (at_tab n g i small))
+
+-- zeros are what a slice is filled with
+pub zeros_again : (n : ℕ) → replicate n nought ≡ zeros n
+unfolding zeros tab
+zeros_again zero = refl
+zeros_again (suc n) = ap (λ (v : List Float). nought ∷ v) (zeros_again n)
 
 -- ---- lengths, and the numbers of H·d
 
@@ -71,3 +78,17 @@ dot_short a b h = go (length a) h
     go : (l : ℕ) → length b < l → nan ≡ dot_to a b l
     go zero h = absurd (not-suc-le-zero h)
     go (suc k) h = sym (dot_to_short a b k (le_of_suc-le-suc h))
+
+-- ---- a walk along a list from number k on, as an iterator's
+
+pub record Walked (v rest : List Float) (k : ℕ) (x : Float) : Type 0 where
+  pub inside : suc k ≤ length v
+  pub is : x ≡ at v k
+  pub on : rest ≡ drop (suc k) v
+
+pub walked : (v rest : List Float) (k : ℕ) (x : Float) → x ∷ rest ≡ drop k v → Walked v rest k x
+walked v rest k x e =
+    let some : suc (length rest) ≡ length v - k = ap length e ∙ length-drop k v in
+    let inside : k < length v = omega arith in
+    let split : x ∷ rest ≡ at v k ∷ drop (suc k) v = e ∙ drop-cons v k nan inside in
+    record { inside = omega arith; is = cc; on = cc }

@@ -1,21 +1,20 @@
 -- The calls on vectors, whole: each answer for every input, refused ones too. Definitions only.
-use Rattle.std.specs.Prelude.{cond, not, List, [], ◌∷◌, ℕ, ◌*◌, ltb, Float}
+use Rattle.std.specs.Prelude.{cond, not, List, [], ◌∷◌, Result, Ok, Err, ℕ, ◌*◌, ltb, Float}
 use Rattle.float.specs.Constants.{nought}
 use Rattle.vectors.specs.Vector.{dot, norm, row, times, weighted}
 use Rattle.vectors.specs.Refusal.{Answer, refused, given, Check, ◌if◌, unless, all_hold, size, sized}
+use Rattle.vectors.specs.declared.refusal.Refusal.{Refusal}
 use Rattle.vectors.specs.declared.refusal.Refusal.TheVariants.{Size}
-use Rattle.vectors.specs.declared.vector.Number.{Number}
-use Rattle.vectors.specs.declared.vector.Number.TheVariants.{Is, Refused}
 
--- the answer that a Number stands for
-abbrev pub tells : Number → Answer Float
-tells (Is x) = given x
-tells (Refused r) = refused r
+-- the answer that a result of the code stands for
+abbrev pub tells : Result Float Refusal → Answer Float
+tells (Ok x) = given x
+tells (Err r) = refused r
 
 -- and its number: +0 where there is none
-abbrev pub value_of : Number → Float
-value_of (Is x) = x
-value_of (Refused r) = nought
+abbrev pub value_of : Result Float Refusal → Float
+value_of (Ok x) = x
+value_of (Err r) = nought
 
 -- dot(n, a, b) refuses by 1, or gives the dot
 abbrev pub dot_checks : ℕ → (a b : List Float) → List Check

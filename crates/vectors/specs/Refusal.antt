@@ -1,12 +1,8 @@
 -- What all calls share: refusals, sizes, and what a call leaves. Definitions only.
-use Rattle.std.specs.Prelude.{◌≡◌, Bool, true, cond, ◌&&◌, ◌||◌, List, [], ◌∷◌, ℕ, ◌+◌, ◌*◌, ◌≤◌, eqb, leb, length, Float}
+use Rattle.std.specs.Prelude.{◌≡◌, Bool, true, cond, ◌&&◌, ◌||◌, List, [], ◌∷◌, Result, Ok, Err, ℕ, ◌+◌, ◌*◌, ◌≤◌, eqb, leb, length, Float}
 use Rattle.vectors.specs.Vector.{zeros}
 use Rattle.vectors.specs.declared.refusal.Refusal.{Refusal}
 use Rattle.vectors.specs.declared.refusal.Refusal.TheVariants.{Size, Setting, Turn, Entry, Radius, Pivot, Root, Range, Hidden}
-use Rattle.vectors.specs.declared.refusal.Verdict.{Verdict}
-use Rattle.vectors.specs.declared.refusal.Verdict.TheVariants.{Passed, Failed}
-use Rattle.vectors.specs.declared.refusal.Outcome.{Outcome}
-use Rattle.vectors.specs.declared.refusal.Outcome.TheVariants.{Written, Refused}
 
 -- the numbers of document 01's table; 9 is request Five's
 abbrev pub number : Refusal → ℕ
@@ -39,10 +35,14 @@ abbrev pub unless : {A : Type 0} → List Check → Answer A → Answer A
 unless [] a = a
 unless (c ∷ cs) a = cond c.applies (refused c.refusal) (unless cs a)
 
--- the same as a verdict of the code
-abbrev pub judged : List Check → Verdict
-judged [] = Passed
-judged (c ∷ cs) = cond c.applies (Failed c.refusal) (judged cs)
+-- what a list of checks comes to in the code, which gives nothing there
+abbrev pub judged : List Check → Result (Unit {0}) Refusal
+judged [] = Ok tt
+judged (c ∷ cs) = cond c.applies (Err c.refusal) (judged cs)
+
+-- one check, by what is to be right
+abbrev pub checked : Refusal → Bool → Result (Unit {0}) Refusal
+checked r right = cond right (Ok tt) (Err r)
 
 -- what follows an answer; a refusal stands
 abbrev pub then : {A B : Type 0} → (A → Answer B) → Answer A → Answer B
@@ -94,17 +94,17 @@ abbrev pub scratch_after : {A : Type 0} → Answer A → List Float → List Flo
 scratch_after (refused r) old = cond (untouched_by r) old (zeros (length old))
 scratch_after (given a) old = zeros (length old)
 
--- the answer that an outcome stands for, where the call left a
-abbrev pub stands_for : {A : Type 0} → Outcome → A → Answer A
-stands_for Written a = given a
-stands_for (Refused r) a = refused r
+-- the answer that a call's word stands for, where it left a
+abbrev pub stands_for : {A : Type 0} → Result (Unit {0}) Refusal → A → Answer A
+stands_for (Ok x) a = given a
+stands_for (Err r) a = refused r
 
 -- what a call leaves that writes one vector
-pub record Wrote (answer : Answer (List Float)) (r : Outcome) (out out' : List Float) : Type 0 where
+pub record Wrote (answer : Answer (List Float)) (r : Result (Unit {0}) Refusal) (out out' : List Float) : Type 0 where
   pub says : stands_for r out' ≡ answer
   pub leaves : out' ≡ left_in (λ v. v) answer out
 
 -- and one that is lent a scratch besides
-pub record Ended (answer : Answer (List Float)) (r : Outcome) (out out' scratch scratch' : List Float) : Type 0 where
+pub record Ended (answer : Answer (List Float)) (r : Result (Unit {0}) Refusal) (out out' scratch scratch' : List Float) : Type 0 where
   pub wrote : Wrote answer r out out'
   pub clears : scratch' ≡ scratch_after answer scratch

@@ -5,23 +5,13 @@ ghost use Rattle.vectors.specs.Refusal.{Square, Wrote};
 ghost use Rattle.vectors.specs.Calls.{tells, value_of, dot_answer, norm_answer, weighted_answer, product_answer, row_part};
 
 use crate::refusal;
-use crate::refusal::{Outcome, Refusal};
-
-// A number, or why there is none.
-#[derive(Clone, Copy)]
-pub enum Number {
-    Is(f64),
-    Refused(Refusal),
-}
+use crate::refusal::Refusal;
 
 // The number, and +0 where there is none.
-pub fn value(x: Number) -> f64
+pub fn value(x: Result<f64, Refusal>) -> f64
     ensures { result ≡ value_of x }
 {
-    match x {
-        Number::Is(v) => v,
-        Number::Refused(_) => 0.0,
-    }
+    x.unwrap_or(0.0)
 }
 
 // No entry is a NaN or an infinity. The loop runs to the end of v whatever it meets, so that the machine
@@ -30,10 +20,8 @@ pub fn all_finite(v: &[f64]) -> bool
     ensures { result ≡ Vector.all_finite v.now }
 {
     let mut all = true;
-    let mut i = 0;
-    while i < v.len() {
-        all = refusal::both(all, float::finite(v[i]));
-        i += 1;
+    for x in v {
+        all &= float::finite(*x);
     }
     all
 }
@@ -42,76 +30,57 @@ pub fn all_finite(v: &[f64]) -> bool
 pub fn both_finite(a: &[f64], b: &[f64]) -> bool
     ensures { result ≡ (Vector.all_finite a.now && Vector.all_finite b.now) }
 {
-    if !all_finite(a) {
-        return false;
-    }
-    all_finite(b)
+    all_finite(a) && all_finite(b)
 }
 
 // +0 throughout.
 pub fn clear(w: &mut [f64])
     ensures { w.new ≡ Vector.zeros (length w.old) }
 {
-    let mut i = 0;
-    while i < w.len() {
-        w[i] = 0.0;
-        i += 1;
-    }
+    w.fill(0.0);
 }
 
 // Row i, as that part of the caller's own matrix.
 pub fn row(n: usize, h: &[f64], i: usize) -> &[f64]
     ensures { result.now ≡ row_part n h.now i }
 {
-    if !refusal::matrix(n, h.len()) {
-        return &h[0..0];
+    if !refusal::matrix(n, h.len()) || n <= i {
+        return &[];
     }
-    if n <= i {
-        return &h[0..0];
-    }
-    let from = i * n;
-    &h[from..from + n]
+    &h[i * n..i * n + n]
 }
 
 // a·b
-pub fn dot(n: usize, a: &[f64], b: &[f64]) -> Number
+pub fn dot(n: usize, a: &[f64], b: &[f64]) -> Result<f64, Refusal>
     ensures { tells result ≡ dot_answer n a.now b.now }
 {
-    if !refusal::vectors(n, a.len(), b.len()) {
-        return Number::Refused(Refusal::Size);
-    }
-    Number::Is(dot_any(a, b))
+    Refusal::Size.unless(refusal::vectors(n, a.len(), b.len()))?;
+    Ok(dot_any(a, b))
 }
 
 // The root of a·a.
-pub fn norm(n: usize, a: &[f64]) -> Number
+pub fn norm(n: usize, a: &[f64]) -> Result<f64, Refusal>
     ensures { tells result ≡ norm_answer n a.now }
 {
-    if !refusal::all_hold(&[refusal::size(n), a.len() == n]) {
-        return Number::Refused(Refusal::Size);
-    }
-    Number::Is(norm_any(a))
+    Refusal::Size.unless(refusal::size(n) && a.len() == n)?;
+    Ok(norm_any(a))
 }
 
 // a·(H·b)
-pub fn weighted_dot(n: usize, a: &[f64], h: &[f64], b: &[f64]) -> Number
+pub fn weighted_dot(n: usize, a: &[f64], h: &[f64], b: &[f64]) -> Result<f64, Refusal>
     ensures { tells result ≡ weighted_answer n a.now h.now b.now }
 {
-    if !refusal::shaped(n, h.len(), a.len(), b.len()) {
-        return Number::Refused(Refusal::Size);
-    }
-    Number::Is(float::one_nan(weighted_unchecked(n, a, h, b)))
+    Refusal::Size.unless(refusal::shaped(n, h.len(), a.len(), b.len()))?;
+    Ok(float::one_nan(weighted_unchecked(n, a, h, b)))
 }
 
 // H·d, into out.
-pub fn product(n: usize, h: &[f64], d: &[f64], out: &mut [f64]) -> Outcome
+pub fn product(n: usize, h: &[f64], d: &[f64], out: &mut [f64]) -> Result<(), Refusal>
     ensures { Wrote (product_answer n h.now d.now out.old) result out.old out.new }
 {
-    if !refusal::shaped(n, h.len(), d.len(), out.len()) {
-        return Outcome::Refused(Refusal::Size);
-    }
+    Refusal::Size.unless(refusal::shaped(n, h.len(), d.len(), out.len()))?;
     times_unchecked(n, h, d, out);
-    Outcome::Written
+    Ok(())
 }
 
 // "A dot starts at +0 and adds products from index 0 upward": the dot of lists of any length. What b
@@ -120,13 +89,11 @@ pub fn dot_any(a: &[f64], b: &[f64]) -> f64
     ensures { result ≡ Vector.dot a.now b.now }
 {
     if b.len() < a.len() {
-        return 0.0 / 0.0;
+        return f64::NAN;
     }
     let mut sum = 0.0;
-    let mut i = 0;
-    while i < a.len() {
-        sum = sum + a[i] * b[i];
-        i += 1;
+    for (x, y) in a.iter().zip(b) {
+        sum += x * y;
     }
     float::one_nan(sum)
 }
@@ -144,13 +111,8 @@ pub fn largest(v: &[f64]) -> f64
     ensures { result ≡ Vector.largest v.now }
 {
     let mut top: u64 = 0;
-    let mut i = 0;
-    while i < v.len() {
-        let bits = float::bits_of(v[i]) % 0x8000_0000_0000_0000;
-        if top < bits {
-            top = bits;
-        }
-        i += 1;
+    for x in v {
+        top = top.max(float::bits_of(*x) % 0x8000_0000_0000_0000);
     }
     float::float_of(top)
 }
@@ -169,10 +131,8 @@ pub(crate) fn weighted_unchecked(n: usize, a: &[f64], h: &[f64], b: &[f64]) -> f
     ensures { result ≡ Vector.weighted n a.now h.now b.now }
 {
     let mut total = 0.0;
-    let mut i = 0;
-    while i < n {
-        total = total + a[i] * row_dot(n, h, i, b);
-        i += 1;
+    for (i, x) in a.iter().enumerate() {
+        total += x * row_dot(n, h, i, b);
     }
     total
 }
@@ -181,16 +141,7 @@ fn times_unchecked(n: usize, h: &[f64], d: &[f64], out: &mut [f64])
     requires { Square n (length h.now) × (length d.now ≡ n) × (length out.old ≡ n) }
     ensures { out.new ≡ Vector.times n h.now d.now }
 {
-    let mut i = 0;
-    while i < n {
-        let part = row(n, h, i);
-        let mut total = 0.0;
-        let mut k = 0;
-        while k < n {
-            total = total + part[k] * d[k];
-            k += 1;
-        }
-        out[i] = float::one_nan(total);
-        i += 1;
+    for (i, y) in out.iter_mut().enumerate() {
+        *y = row_dot(n, h, i, d);
     }
 }

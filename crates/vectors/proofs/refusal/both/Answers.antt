@@ -1,8 +1,0 @@
--- `vectors::refusal::both` meets its contract. Assumes nothing.
-use Rattle.vectors.proofs.refusal.both.Goals as goal
-
-pub returns-then-a : goal.returns-then-a
-returns-then-a c = rw c.if-a.true
-
-pub returns : goal.returns
-returns c = rw c.if-a.false

@@ -1,8 +1,0 @@
--- `vectors::vector::value` meets its contract. Assumes nothing.
-use Rattle.vectors.proofs.vector.value.Goals as goal
-
-pub returns-in-Is : goal.returns-in-Is
-returns-in-Is c = rw c.in-Is.is
-
-pub returns-in-Refused : goal.returns-in-Refused
-returns-in-Refused c = rw c.in-Refused.is
