@@ -1,38 +1,36 @@
 -- crates/vectors: each contract has one result. Assumes nothing.
 use mathlib.Core.Path.{◌≡◌, refl}
 use mathlib.Core.List.{List, [], ◌∷◌}
+use Rattle.std.specs.Prelude.{Result, Ok, Err}
 use lib.Ieee.{Float}
 use Rattle.vectors.specs.Refusal.{Answer, stands_for, Wrote}
 use Rattle.vectors.specs.Calls.{tells}
-use Rattle.vectors.specs.declared.refusal.Outcome.{Outcome}
-use Rattle.vectors.specs.declared.refusal.Outcome.TheVariants.{Written, Refused}
-use Rattle.vectors.specs.declared.vector.Number.{Number}
-use Rattle.vectors.specs.declared.vector.Number.TheVariants as number
+use Rattle.vectors.specs.declared.refusal.Refusal.{Refusal}
 use Rattle.unique.proofs.Law.{Line, unique, equation, UniqueIn, unique_in, alike, ◌&◌}
 use Rattle.vectors.specs.contracts.refusal as refusal
 use Rattle.vectors.specs.contracts.vector as vector
 
--- a Number is known by the answer that it stands for
-told : {a : Answer Float} (r r₂ : Number) → tells r ≡ a → tells r₂ ≡ a → r ≡ r₂
-told (number.Is x) (number.Is y) p q = cc
-told (number.Is x) (number.Refused l) p q = cc
-told (number.Refused k) (number.Is y) p q = cc
-told (number.Refused k) (number.Refused l) p q = cc
+-- a result is known by the answer that it stands for
+told : {a : Answer Float} (r r₂ : Result Float Refusal) → tells r ≡ a → tells r₂ ≡ a → r ≡ r₂
+told (Ok x) (Ok y) p q = cc
+told (Ok x) (Err l) p q = cc
+told (Err k) (Ok y) p q = cc
+told (Err k) (Err l) p q = cc
 
--- and so is an Outcome
-stood : (r r₂ : Outcome) (v v₂ : List Float) → stands_for r v ≡ stands_for r₂ v₂ → r ≡ r₂
-stood Written Written v v₂ e = refl
-stood Written (Refused k) v v₂ e = cc
-stood (Refused k) Written v v₂ e = cc
-stood (Refused k) (Refused l) v v₂ e = cc
+-- and so is one that gives nothing, with what was left
+stood : (r r₂ : Result (Unit {0}) Refusal) (v v₂ : List Float) → stands_for r v ≡ stands_for r₂ v₂ → r ≡ r₂
+stood (Ok x) (Ok y) v v₂ e = refl
+stood (Ok x) (Err k) v v₂ e = cc
+stood (Err k) (Ok x) v v₂ e = cc
+stood (Err k) (Err l) v v₂ e = cc
 
-pub wrote : {a : Answer (List Float)} {r r₂ : Outcome} {s s' s'' : List Float} → Wrote a r s s' → Wrote a r₂ s s'' → (r ≡ r₂) × (s' ≡ s'')
+pub wrote : {a : Answer (List Float)} {r r₂ : Result (Unit {0}) Refusal} {s s' s'' : List Float} → Wrote a r s s' → Wrote a r₂ s s'' → (r ≡ r₂) × (s' ≡ s'')
 wrote p q = (stood _ _ _ _ (alike p.says q.says), alike p.leaves q.leaves)
 
 pub table : List Line
 table =
-    equation refusal.number.ended (λ M 𝓤. refusal.number.spec) (λ w κs a g r. refl) (λ κs a s s₂. refl)
-    ∷ equation refusal.both.ended (λ M 𝓤. refusal.both.spec) (λ w κs a g r. refl) (λ κs a s s₂. refl)
+    equation refusal.Refusal.number.ended (λ M 𝓤. refusal.Refusal.number.spec) (λ w κs a g r. refl) (λ κs a s s₂. refl)
+    ∷ equation refusal.Refusal.unless.ended (λ M 𝓤. refusal.Refusal.unless.spec) (λ w κs a g r. refl) (λ κs a s s₂. refl)
     ∷ equation refusal.all_hold.ended (λ M 𝓤. refusal.all_hold.spec) (λ w κs a g r. refl) (λ κs a s s₂. refl)
     ∷ equation refusal.size.ended (λ M 𝓤. refusal.size.spec) (λ w κs a g r. refl) (λ κs a s s₂. refl)
     ∷ equation refusal.vectors.ended (λ M 𝓤. refusal.vectors.spec) (λ w κs a g r. refl) (λ κs a s s₂. refl)
