@@ -9,7 +9,6 @@ use Rattle.root.specs.Root.{whole_root}
 use Rattle.root.proofs.Whole.{whole_root_is}
 
 pub record Taken (m a q r i : ℕ) : Type 0 where
-  pub upto : i ≤ 54
   pub all : (q * q + r) * 2 ^ 64 + a ≡ m * 1024 * 4 ^ i
   pub rest : a < 2 ^ 64
   pub remainder : r ≤ 2 * q
@@ -46,7 +45,7 @@ module _ (m a q r i : ℕ) (h : Taken m a q r i) (l : i < 54) where
       let w = two_times i in
       let b = h.all in
       let d : q * 2 + 1 + 1 ≤ 2 ^ (i + 1) = omega arith in
-      record { upto = omega arith; all = omega arith; rest = omega arith; remainder = omega arith; small = d; cap = cap_next (q * 2 + 1) d }
+      record { all = omega arith; rest = omega arith; remainder = omega arith; small = d; cap = cap_next (q * 2 + 1) d }
 
   pub digit_zero : r * 4 + a / 2 ^ 62 < q * 4 + 1 → Taken m (a % 2 ^ 62 * 4) (q * 2) (r * 4 + a / 2 ^ 62) (i + 1)
   digit_zero g =
@@ -55,7 +54,7 @@ module _ (m a q r i : ℕ) (h : Taken m a q r i) (l : i < 54) where
       let w = two_times i in
       let b = h.all in
       let d : q * 2 + 1 ≤ 2 ^ (i + 1) = omega arith in
-      record { upto = omega arith; all = omega arith; rest = omega arith; remainder = omega arith; small = d; cap = cap_next (q * 2) d }
+      record { all = omega arith; rest = omega arith; remainder = omega arith; small = d; cap = cap_next (q * 2) d }
 
 -- after 54 steps nothing is left
 pub taken_all : (m a q r : ℕ) → Taken m a q r 54 → q ≡ whole_root (m * 2 ^ 54)
