@@ -7,6 +7,7 @@ use lib.Dec.{eqb}
 use lib.ListN.{length}
 use lib.Ieee.{Float}
 use borrow.Author.Tests.{eq-eqb, ne_eqb}
+use Rattle.std.specs.Prelude.{Result, Err}
 use Rattle.vectors.specs.Refusal.{all_hold, size, sized, room}
 use Rattle.kernels.specs.Kernel.{Proper, Laid}
 use Rattle.kernels.specs.CauchyPoint.{cauchy_point}
@@ -16,7 +17,7 @@ use Rattle.kernels.specs.Steihaug.{steihaug}
 use Rattle.kernels.specs.Choice.{known, ranges, in_range, kernel, door}
 use Rattle.vectors.specs.declared.refusal.Refusal.TheVariants.{Size, Setting}
 use Rattle.kernels.specs.declared.kernel.Stepped.{Stepped}
-use Rattle.kernels.specs.declared.kernel.Stepped.TheVariants.{Refused}
+use Rattle.vectors.specs.declared.refusal.Refusal.{Refusal}
 use Rattle.kernels.specs.declared.choice.Choice.{Choice}
 use Rattle.vectors.proofs.Sizes.{each_holds, size_test}
 use Rattle.kernels.proofs.Kernels.{Lent}
@@ -56,17 +57,17 @@ module _ (c : Choice) (n : ℕ) (radius : Float) (g H w : List Float) where
   abbrev sizes : Bool
   sizes = all_hold (size n ∷ sized (n * n) H ∷ sized n g ∷ eqb n n ∷ sized (room n) w ∷ [])
 
-  pub shut_size : sizes ≡ false → Laid (door c n radius g H w) (Refused Size) w w
+  pub shut_size : sizes ≡ false → Laid (door c n radius g H w) (Err Size) w w
   unfolding door
   shut_size e = rw (sym (no_step n (length H) (length g) (length w)) ∙ e) (record { says = refl; lays = refl })
 
-  pub shut_kernel : sizes ≡ true → known c ≡ false → Laid (door c n radius g H w) (Refused Setting) w w
+  pub shut_kernel : sizes ≡ true → known c ≡ false → Laid (door c n radius g H w) (Err Setting) w w
   unfolding door
   shut_kernel e k = rw (sym (no_step n (length H) (length g) (length w)) ∙ e, k) (record { says = refl; lays = refl })
 
 -- ---- which kernel a number names, and what it laid
 
-module _ (c : Choice) (n : ℕ) (radius : Float) (g H : List Float) (r : Stepped) (w w' : List Float) where
+module _ (c : Choice) (n : ℕ) (radius : Float) (g H : List Float) (r : Result Stepped Refusal) (w w' : List Float) where
   abbrev Chosen : Type 0
   Chosen = Laid (kernel c n radius g H) r w w'
 

@@ -5,6 +5,7 @@ use mathlib.Core.List.{List}
 use Prim.Native.Nat.{ℕ, zero, suc}
 use lib.ListN.{length}
 use lib.Ieee.{Float, lt, le, neg}
+use Rattle.std.specs.Prelude.{Result, Err}
 use Rattle.float.specs.Numbers.{◌⊕◌, ◌⊖◌, ◌⊗◌, ◌⊘◌, square}
 use Rattle.float.specs.Constants.{nought, one, two}
 use Rattle.root.specs.Root.{root}
@@ -18,7 +19,7 @@ use Rattle.kernels.specs.Dogleg.{candidates, keep, tau, bent, measured, outside,
 use Rattle.vectors.specs.declared.refusal.Refusal.TheVariants.{Pivot}
 use Rattle.kernels.specs.declared.dogleg.Measures.{Measures}
 use Rattle.kernels.specs.declared.kernel.Stepped.{Stepped}
-use Rattle.kernels.specs.declared.kernel.Stepped.TheVariants.{Refused}
+use Rattle.vectors.specs.declared.refusal.Refusal.{Refusal}
 use Rattle.kernels.specs.declared.workspace.Op.TheVariants.{Times, PlusTimes, Minus}
 use Rattle.vectors.proofs.Vectors.{length_plus, length_scale}
 use Rattle.kernels.proofs.Ops.{each_minus, each_times, each_plus_times}
@@ -78,11 +79,11 @@ module _ (step : ℕ → Float → (pb pu : List Float) → List Float) (n : ℕ
 
   -- `lay`, where the code has pb, or f says that a pivot was refused
   module _ (f : Bool) (pb w : List Float) (e : newton_in f pb ≡ newton n g H) where
-    pub between_none : (len : ℕ) (w' : List Float) → f ≡ false → len ≡ length w → w' ≡ zeros len → Laid (between step n radius g H) (Refused Pivot) w w'
+    pub between_none : (len : ℕ) (w' : List Float) → f ≡ false → len ≡ length w → w' ≡ zeros len → Laid (between step n radius g H) (Err Pivot) w w'
     unfolding between newton_in
     between_none len w' h l z = rw (← e, h) (record { says = refl; lays = z ∙ ap zeros l })
 
-    pub between_laid : (w₁ w₂ : List Float) (r : Stepped) → Proper n (between step n radius g H) → f ≡ true → slot w₁ n 0 ≡ step n radius pb (unconstrained n g H) → length w₁ ≡ length w
+    pub between_laid : (w₁ w₂ : List Float) (r : Result Stepped Refusal) → Proper n (between step n radius g H) → f ≡ true → slot w₁ n 0 ≡ step n radius pb (unconstrained n g H) → length w₁ ≡ length w
         → Laid (handed_out (made 0 (slot w₁ n 0))) r w₁ w₂ → Laid (between step n radius g H) r w w₂
     unfolding between newton_in
     between_laid w₁ w₂ r proper h a l p =
@@ -148,11 +149,11 @@ module _ (n : ℕ) (radius x : Float) (g H w : List Float) (e : x ≡ norm (slot
 
 -- `lay`, where the code has pb
 module _ (n : ℕ) (radius : Float) (g H : List Float) (f : Bool) (pb w : List Float) (e : newton_in f pb ≡ newton n g H) where
-  pub dogleg_none : (len : ℕ) (w' : List Float) → f ≡ false → len ≡ length w → w' ≡ zeros len → Laid (dogleg n radius g H) (Refused Pivot) w w'
+  pub dogleg_none : (len : ℕ) (w' : List Float) → f ≡ false → len ≡ length w → w' ≡ zeros len → Laid (dogleg n radius g H) (Err Pivot) w w'
   unfolding dogleg
   dogleg_none = between_none dogleg_step n radius g H f pb w e
 
-  pub dogleg_laid : (w₁ w₂ : List Float) (r : Stepped) → f ≡ true → slot w₁ n 0 ≡ dogleg_step n radius pb (unconstrained n g H) → length w₁ ≡ length w
+  pub dogleg_laid : (w₁ w₂ : List Float) (r : Result Stepped Refusal) → f ≡ true → slot w₁ n 0 ≡ dogleg_step n radius pb (unconstrained n g H) → length w₁ ≡ length w
       → Laid (handed_out (made 0 (slot w₁ n 0))) r w₁ w₂ → Laid (dogleg n radius g H) r w w₂
   unfolding dogleg
   dogleg_laid w₁ w₂ r = between_laid dogleg_step n radius g H f pb w e w₁ w₂ r (dogleg_proper n radius g H)

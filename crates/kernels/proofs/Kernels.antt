@@ -10,6 +10,7 @@ use lib.Seq.{length-take-le, take_at, drop-append-add, take_all}
 use lib.Ieee.{Float}
 use borrow.Rule.Slice.PartMut.{mid_of, put_mid}
 use borrow.Author.Tests.{eqb-true}
+use Rattle.std.specs.Prelude.{Result, Ok, Err}
 use Rattle.float.specs.Constants.{nought}
 use Rattle.float.specs.Numbers.{finite}
 use Rattle.vectors.specs.Vector.{tab, zeros, all_finite, norm}
@@ -21,7 +22,6 @@ use Rattle.vectors.specs.declared.refusal.Refusal.TheVariants.{Size, Setting, En
 use Rattle.vectors.specs.declared.refusal.Verdict.{Verdict}
 use Rattle.vectors.specs.declared.refusal.Verdict.TheVariants.{Passed, Failed}
 use Rattle.kernels.specs.declared.kernel.Stepped.{Stepped}
-use Rattle.kernels.specs.declared.kernel.Stepped.TheVariants.{In, Refused}
 use Rattle.vectors.proofs.Norms.{norm_tells}
 use Rattle.vectors.proofs.Sizes.{each_holds, square_by}
 use Rattle.kernels.proofs.Rows.{low_room}
@@ -95,7 +95,7 @@ module _ (settings : Bool) (n : ℕ) (radius : Float) (g H step w : List Float) 
       (first_passed (all_hold (size n ∷ sized (n * n) H ∷ sized n g ∷ sized n step ∷ sized (room n) w ∷ [])) Size ((Setting if not (positive radius && settings)) ∷ (Entry if not (all_finite g && all_finite H)) ∷ []) (sym judges ∙ e))
 
   -- a kernel that they end
-  pub took_none : (kernel : Kernel) (r : Refusal) → v ≡ Failed r → Took (called settings kernel n radius g H step w) (Refused r) step step w w
+  pub took_none : (kernel : Kernel) (r : Refusal) → v ≡ Failed r → Took (called settings kernel n radius g H step w) (Err r) step step w w
   unfolding called
   took_none kernel r e =
       let cs = kernel_checks settings n radius g H step w in
@@ -135,7 +135,7 @@ laid_length : (n : ℕ) (a : Answer Made) (w₁ w : List Float) → Proper n a �
 laid_length n (refused r) w₁ w p l = rw p (ap zeros l)
 laid_length n (given m) w₁ w p l = ap (λ (k : ℕ). m.step ++ zeros (k - length m.step)) l
 
-pub laid_same : (n : ℕ) (a b : Answer Made) (r : Stepped) (w₁ w w' : List Float) → Proper n b → a ≡ b → length w₁ ≡ length w → Laid a r w₁ w' → Laid b r w w'
+pub laid_same : (n : ℕ) (a b : Answer Made) (r : Result Stepped Refusal) (w₁ w w' : List Float) → Proper n b → a ≡ b → length w₁ ≡ length w → Laid a r w₁ w' → Laid b r w w'
 laid_same n a b r w₁ w w' p e l h = record { says = h.says ∙ ap stepped e; lays = h.lays ∙ ap (λ (x : Answer Made). laid_out x w₁) e ∙ laid_length n b w₁ w p l }
 
 -- `settle_by`: the norm of the step alone tells whether it is sound
@@ -144,12 +144,12 @@ module _ (n passes : ℕ) (w : List Float) (long : Float) (is : long ≡ norm (s
   unfolding sound_step
   known b t = sym (norm_tells (slot w n 0)) ∙ sym (ap finite is) ∙ t
 
-  pub unsettled : (w' : List Float) → finite long ≡ false → w' ≡ zeros (length w) → Laid (handed_out (made passes (slot w n 0))) (Refused Range) w w'
+  pub unsettled : (w' : List Float) → finite long ≡ false → w' ≡ zeros (length w) → Laid (handed_out (made passes (slot w n 0))) (Err Range) w w'
   unfolding handed_out
   unsettled w' t z = rw (known false t) (record { says = refl; lays = z })
 
   pub settled : (ys : List Float) → finite long ≡ true → n ≤ length w → ys ≡ zeros (length (mid_of n (length w - n) w))
-      → Laid (handed_out (made passes (slot w n 0))) (In passes long) w (put_mid n (length w - n) w ys)
+      → Laid (handed_out (made passes (slot w n 0))) (Ok (record { passes = passes; norm = long })) w (put_mid n (length w - n) w ys)
   unfolding handed_out slot
   settled ys t h z =
       let none : 0 * n ≡ 0 = omega arith in
@@ -159,7 +159,7 @@ module _ (n passes : ℕ) (w : List Float) (long : Float) (is : long ≡ norm (s
       let behind : drop (length w - n) (drop n w) ≡ [] = drop_of_length-le (drop n w) {i = length w - n} (omega (arith, size)) in
       let all : take (length w - n) (drop n w) ≡ drop n w = take_all (length w - n) (drop n w) (omega (arith, size)) in
       let zeroed : ys ≡ zeros (length w - length (take n w)) = z ∙ rw (all, size, size-0) in
-      rw (known true t) (record { says = ap (In passes) is; lays = rw (front, behind, zeroed, append-nil) })
+      rw (known true t) (record { says = ap (λ (x : Float). Ok (record { passes = passes; norm = x })) is; lays = rw (front, behind, zeroed, append-nil) })
 
 -- ---- how it ends for a direct caller
 
@@ -189,18 +189,18 @@ cleared_laid v k size a b =
     rw (behind, zeros_join, all)
 
 -- from what a kernel laid out in w₁ and `hand_over` made of it
-module _ (n : ℕ) (found r : Stepped) (step step' w w₁ w' : List Float) (l : length w₁ ≡ length w)
+module _ (n : ℕ) (found r : Result Stepped Refusal) (step step' w w₁ w' : List Float) (l : length w₁ ≡ length w)
     (b : n ≤ length w) (h : (r ≡ found) × (step' ≡ handed_over found (slot w₁ n 0) step) × (w' ≡ handed_over found (zeros n ++ drop n w₁) w₁)) where
   took_one : (a : Answer Made) → Proper n a → Laid a found w w₁ → Took a r step step' w w'
   took_one (refused x) p laid = record {
     says = h.0 ∙ laid.says;
-    leaves = h.1 ∙ ap (λ (s : Stepped). handed_over s (slot w₁ n 0) step) laid.says;
-    clears = h.2 ∙ ap (λ (s : Stepped). handed_over s (zeros n ++ drop n w₁) w₁) laid.says ∙ laid.lays;
+    leaves = h.1 ∙ ap (λ (s : Result Stepped Refusal). handed_over s (slot w₁ n 0) step) laid.says;
+    clears = h.2 ∙ ap (λ (s : Result Stepped Refusal). handed_over s (zeros n ++ drop n w₁) w₁) laid.says ∙ laid.lays;
   }
   took_one (given m) p laid = record {
     says = h.0 ∙ laid.says;
-    leaves = h.1 ∙ ap (λ (s : Stepped). handed_over s (slot w₁ n 0) step) laid.says ∙ ap (λ (u : List Float). slot u n 0) laid.lays ∙ slot_laid m.step _ n p;
-    clears = h.2 ∙ ap (λ (s : Stepped). handed_over s (zeros n ++ drop n w₁) w₁) laid.says ∙ ap (λ (u : List Float). zeros n ++ drop n u) laid.lays ∙ cleared_laid m.step n (length w) (omega arith) b;
+    leaves = h.1 ∙ ap (λ (s : Result Stepped Refusal). handed_over s (slot w₁ n 0) step) laid.says ∙ ap (λ (u : List Float). slot u n 0) laid.lays ∙ slot_laid m.step _ n p;
+    clears = h.2 ∙ ap (λ (s : Result Stepped Refusal). handed_over s (zeros n ++ drop n w₁) w₁) laid.says ∙ ap (λ (u : List Float). zeros n ++ drop n u) laid.lays ∙ cleared_laid m.step n (length w) (omega arith) b;
   }
 
   pub took : (settings : Bool) (kernel : Kernel) (radius : Float) (g H : List Float) (v : Verdict) → v ≡ judged (kernel_checks settings n radius g H step w) → v ≡ Passed

@@ -8,6 +8,7 @@ use native.Mathlib.Omega.{arith}
 use lib.ListN.{length, take}
 use lib.Seq.{take_at, length-take-le}
 use lib.Ieee.{Float, lt, le, neg, is_nan}
+use Rattle.std.specs.Prelude.{Result}
 use Rattle.float.specs.Numbers.{◌⊕◌, ◌⊖◌, ◌⊗◌, ◌⊘◌, square, finite}
 use Rattle.float.specs.Constants.{nought, one, two, half}
 use Rattle.float.proofs.Order.{lt_self}
@@ -330,7 +331,7 @@ steihaug_proper epsilon limit n radius g H =
     (either (Proper n) (lt (norm g) epsilon) long (run_proper n radius (epsilon ⊗ norm g) g H limit 0 (start n g) long))
 
 -- the point of slot 6, moved to slot 0 and settled there
-pub moved_laid : (n passes : ℕ) (w w₁ w₂ : List Float) (r : Stepped) → 6 * n + n ≤ length w → Puts w n 0 (slot w n 6) w₁ → length w₁ ≡ length w
+pub moved_laid : (n passes : ℕ) (w w₁ w₂ : List Float) (r : Result Stepped Refusal) → 6 * n + n ≤ length w → Puts w n 0 (slot w n 6) w₁ → length w₁ ≡ length w
     → Laid (handed_out (made passes (slot w₁ n 0))) r w₁ w₂ → Laid (handed_out (made passes (slot w n 6))) r w w₂
 moved_laid n passes w w₁ w₂ r h p l e =
     laid_same n (handed_out (made passes (slot w₁ n 0))) (handed_out (made passes (slot w n 6))) r w₁ w w₂ (handed_proper n (made passes (slot w n 6)) (length_slot w n 6 h)) (ap (λ (v : List Float). handed_out (made passes v)) (p 0)) l e
@@ -341,7 +342,7 @@ module _ (epsilon : Float) (limit n : ℕ) (radius : Float) (g H w : List Float)
   abbrev whole : Answer Made
   whole = steihaug epsilon limit n radius g H
 
-  pub at_once : (w₀ : List Float) → length w ≡ length w₀ → (r : Stepped) (w' : List Float) → lt norm-g epsilon ≡ true → Laid (handed_out (made 0 (slot w n 0))) r w w' → Laid whole r w₀ w'
+  pub at_once : (w₀ : List Float) → length w ≡ length w₀ → (r : Result Stepped Refusal) (w' : List Float) → lt norm-g epsilon ≡ true → Laid (handed_out (made 0 (slot w n 0))) r w w' → Laid whole r w₀ w'
   unfolding steihaug start
   at_once w₀ l r w' t h =
       laid_same n (handed_out (made 0 (slot w n 0))) whole r w w₀ w' (steihaug_proper epsilon limit n radius g H)
@@ -355,5 +356,5 @@ module _ (epsilon : Float) (limit n : ℕ) (radius : Float) (g H w : List Float)
     pub passes_proper : Proper n (then handed_out o)
     passes_proper = subst (Proper n) (sym is_whole) (steihaug_proper epsilon limit n radius g H)
 
-    pub in_passes : (w₀ w₁ w' : List Float) (r : Stepped) → length w ≡ length w₀ → length w₁ ≡ length w → Laid (then handed_out o) r w₁ w' → Laid whole r w₀ w'
+    pub in_passes : (w₀ w₁ w' : List Float) (r : Result Stepped Refusal) → length w ≡ length w₀ → length w₁ ≡ length w → Laid (then handed_out o) r w₁ w' → Laid whole r w₀ w'
     in_passes w₀ w₁ w' r l m h = laid_same n (then handed_out o) whole r w₁ w₀ w' (steihaug_proper epsilon limit n radius g H) is_whole (m ∙ l) h

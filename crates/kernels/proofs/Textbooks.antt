@@ -5,6 +5,7 @@ use mathlib.Core.List.{List}
 use Prim.Native.Nat.{ℕ}
 use lib.ListN.{length}
 use lib.Ieee.{Float, lt, le}
+use Rattle.std.specs.Prelude.{Result}
 use Rattle.float.specs.Numbers.{◌⊕◌, ◌⊖◌, ◌⊗◌, ◌⊘◌, square}
 use Rattle.float.specs.Constants.{nought}
 use Rattle.root.specs.Root.{root}
@@ -17,6 +18,7 @@ use Rattle.kernels.specs.Dogleg.{measured, towards, unconstrained, between, Meas
 use Rattle.kernels.specs.Textbook.{first_leg, along, second_leg, legs, textbook_step, textbook_dogleg}
 use Rattle.kernels.specs.declared.dogleg.Measures.{Measures}
 use Rattle.kernels.specs.declared.kernel.Stepped.{Stepped}
+use Rattle.vectors.specs.declared.refusal.Refusal.{Refusal}
 use Rattle.kernels.specs.declared.workspace.Op.TheVariants.{Times, PlusTimes}
 use Rattle.vectors.proofs.Vectors.{length_plus, length_scale}
 use Rattle.kernels.proofs.Ops.{each_times, each_plus_times}
@@ -67,7 +69,7 @@ module _ (n : ℕ) (radius y curvature : Float) (g w w₁ w₂ : List Float) (p 
   on_second w₃ m a h q ea r = rw (← is_y, h) (r 0 ∙ each_plus_times n (slot w₂ n 1) (slot w₂ n 2) a ∙ rw (ea, q.measure radius along, q.pu_stays, q.across, p 0, p 1))
 
 -- `lay`, by the curvature
-module _ (n : ℕ) (radius curvature : Float) (g H w w' : List Float) (r : Stepped) (e : curvature ≡ weighted n g H g) where
+module _ (n : ℕ) (radius curvature : Float) (g H w w' : List Float) (r : Result Stepped Refusal) (e : curvature ≡ weighted n g H g) where
   by_curvature : (b : Bool) → lt nought curvature ≡ b → Laid (cond b (between textbook_step n radius g H) (cauchy_point n radius g H)) r w w' → Laid (textbook_dogleg n radius g H) r w w'
   unfolding textbook_dogleg
   by_curvature b t h = subst (λ (x : Bool). Laid (cond x (between textbook_step n radius g H) (cauchy_point n radius g H)) r w w') (sym t ∙ ap (lt nought) e) h

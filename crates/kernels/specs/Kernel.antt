@@ -1,12 +1,12 @@
 -- What the kernels share: what they give, and the checks before them. Definitions only.
-use Rattle.std.specs.Prelude.{◌≡◌, Bool, false, not, ◌&&◌, List, [], ◌∷◌, ◌++◌, ℕ, ◌-◌, ◌*◌, leb, length, Float}
+use Rattle.std.specs.Prelude.{◌≡◌, Bool, false, not, ◌&&◌, List, [], ◌∷◌, ◌++◌, ℕ, ◌-◌, ◌*◌, leb, length, Float, Result, Ok, Err}
 use Rattle.std.specs.Float.Ieee.{lt}
 use Rattle.float.specs.Numbers.{finite}
 use Rattle.float.specs.Constants.{nought}
 use Rattle.vectors.specs.Vector.{zeros, norm, all_finite}
 use Rattle.vectors.specs.Refusal.{Answer, refused, given, Check, ◌if◌, unless, all_hold, untouched_by, size, sized, room, left_in, scratch_after}
 use Rattle.kernels.specs.declared.kernel.Stepped.{Stepped}
-use Rattle.kernels.specs.declared.kernel.Stepped.TheVariants.{In, Refused}
+use Rattle.vectors.specs.declared.refusal.Refusal.{Refusal}
 use Rattle.vectors.specs.declared.refusal.Refusal.TheVariants.{Size, Setting, Entry, Range}
 
 -- a step, and the passes it took: 0 but for Steihaug
@@ -38,26 +38,26 @@ Proper n (given m) = length m.step ≡ n
 
 -- ---- what a kernel says and leaves
 
-abbrev pub stepped : Answer Made → Stepped
-stepped (refused r) = Refused r
-stepped (given m) = In m.passes (norm m.step)
+abbrev pub stepped : Answer Made → Result Stepped Refusal
+stepped (refused r) = Err r
+stepped (given m) = Ok (record { passes = m.passes; norm = norm m.step })
 
 -- For a session a kernel leaves its step at the start of the scratch and +0 behind it.
 abbrev pub laid_out : Answer Made → List Float → List Float
 laid_out (refused r) old = scratch_after {A = Made} (refused r) old
 laid_out (given m) old = m.step ++ zeros (length old - length m.step)
 
-pub record Laid (answer : Answer Made) (r : Stepped) (scratch scratch' : List Float) : Type 0 where
+pub record Laid (answer : Answer Made) (r : Result Stepped Refusal) (scratch scratch' : List Float) : Type 0 where
   pub says : r ≡ stepped answer
   pub lays : scratch' ≡ laid_out answer scratch
 
 -- what a direct caller's step becomes: the step that was laid out, or what it was
-abbrev pub handed_over : Stepped → (laid step : List Float) → List Float
-handed_over (In k norm) laid step = laid
-handed_over (Refused r) laid step = step
+abbrev pub handed_over : Result Stepped Refusal → (laid step : List Float) → List Float
+handed_over (Ok made) laid step = laid
+handed_over (Err r) laid step = step
 
 -- for a direct caller it leaves its step where that was to go, and +0 in the scratch
-pub record Took (answer : Answer Made) (r : Stepped) (step step' scratch scratch' : List Float) : Type 0 where
+pub record Took (answer : Answer Made) (r : Result Stepped Refusal) (step step' scratch scratch' : List Float) : Type 0 where
   pub says : r ≡ stepped answer
   pub leaves : step' ≡ left_in (λ m. m.step) answer step
   pub clears : scratch' ≡ scratch_after answer scratch

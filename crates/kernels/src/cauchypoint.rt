@@ -8,6 +8,7 @@ ghost use Rattle.kernels.specs.CauchyPoint as CauchyPoint;
 use crate::choice::Choice;
 use crate::kernel::Stepped;
 use crate::{choice, inner, kernel, workspace};
+use vectors::refusal::Refusal;
 use vectors::vector;
 
 // How far along −g, of the way to the radius.
@@ -28,7 +29,13 @@ fn factor(radius: f64, curvature: f64, norm: f64) -> f64
 }
 
 // The kernel for a session, which has made its own checks.
-pub(crate) fn lay(n: usize, radius: f64, g: &[f64], h: &[f64], w: &mut [f64]) -> Stepped
+pub(crate) fn lay(
+    n: usize,
+    radius: f64,
+    g: &[f64],
+    h: &[f64],
+    w: &mut [f64],
+) -> Result<Stepped, Refusal>
     requires { Square n (length h.now) × (length g.now ≡ n) × Roomy n (length w.old) }
     ensures { Laid (CauchyPoint.cauchy_point n radius g.now h.now) result w.old w.new }
 {
@@ -45,7 +52,7 @@ pub(crate) fn lay_by(
     norm: f64,
     g: &[f64],
     w: &mut [f64],
-) -> Stepped
+) -> Result<Stepped, Refusal>
     requires { (length g.now ≡ n) × Roomy n (length w.old) }
     ensures { Laid (CauchyPoint.along n radius curvature norm g.now) result w.old w.new }
 {
@@ -61,7 +68,7 @@ pub fn cauchy_point(
     hessian: &[f64],
     step: &mut [f64],
     scratch: &mut [f64],
-) -> Stepped
+) -> Result<Stepped, Refusal>
     ensures { Took (called true CauchyPoint.cauchy_point n radius gradient.now hessian.now step.old scratch.old)
         result step.old step.new scratch.old scratch.new }
 {

@@ -95,7 +95,14 @@ fn asked(choice: Choice) -> bool
 
 // The kernel that is chosen, over lists of the right lengths. A kernel that is neither 1 nor 2 counts as 3 here, and a dogleg
 // that is not 1 as 2; both callers have looked.
-fn chosen(choice: Choice, n: usize, radius: f64, g: &[f64], h: &[f64], w: &mut [f64]) -> Stepped
+fn chosen(
+    choice: Choice,
+    n: usize,
+    radius: f64,
+    g: &[f64],
+    h: &[f64],
+    w: &mut [f64],
+) -> Result<Stepped, Refusal>
     requires { Square n (length h.now) × (length g.now ≡ n) × Roomy n (length w.old) }
     ensures { Laid (Definition.kernel choice n radius g.now h.now) result w.old w.new }
 {
@@ -122,15 +129,15 @@ pub fn lay_unchecked(
     gradient: &[f64],
     hessian: &[f64],
     scratch: &mut [f64],
-) -> Stepped
+) -> Result<Stepped, Refusal>
     ensures { Laid (door choice n radius gradient.now hessian.now scratch.old) result scratch.old scratch.new }
 {
     // no step is lent here, hence n for its length
     if !kernel::sized(n, hessian.len(), gradient.len(), n, scratch.len()) {
-        return Stepped::Refused(Refusal::Size);
+        return Err(Refusal::Size);
     }
     if !known(choice) {
-        return Stepped::Refused(Refusal::Setting);
+        return Err(Refusal::Setting);
     }
     chosen(choice, n, radius, gradient, hessian, scratch)
 }
@@ -144,7 +151,7 @@ pub fn direct(
     hessian: &[f64],
     step: &mut [f64],
     scratch: &mut [f64],
-) -> Stepped
+) -> Result<Stepped, Refusal>
     ensures { Took (called (Definition.asked choice) (Definition.kernel choice) n radius gradient.now hessian.now step.old scratch.old)
         result step.old step.new scratch.old scratch.new }
 {
@@ -159,7 +166,7 @@ pub fn direct(
         scratch.len(),
     );
     match verdict {
-        Verdict::Failed(r) => Stepped::Refused(r),
+        Verdict::Failed(r) => Err(r),
         Verdict::Passed => {
             let found = chosen(choice, n, radius, gradient, hessian, scratch);
             kernel::hand_over(n, found, step, scratch)

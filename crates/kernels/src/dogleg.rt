@@ -107,13 +107,19 @@ fn step(n: usize, radius: f64, g: &[f64], h: &[f64], w: &mut [f64])
 }
 
 // The kernel for a session, which has made its own checks.
-pub(crate) fn lay(n: usize, radius: f64, g: &[f64], h: &[f64], w: &mut [f64]) -> Stepped
+pub(crate) fn lay(
+    n: usize,
+    radius: f64,
+    g: &[f64],
+    h: &[f64],
+    w: &mut [f64],
+) -> Result<Stepped, Refusal>
     requires { Square n (length h.now) × (length g.now ≡ n) × Roomy n (length w.old) }
     ensures { Laid (Dogleg.dogleg n radius g.now h.now) result w.old w.new }
 {
     if !newton(n, w, g, h) {
         vector::clear(w);
-        return Stepped::Refused(Refusal::Pivot);
+        return Err(Refusal::Pivot);
     }
     step(n, radius, g, h, w);
     kernel::settle(n, w, 0)
@@ -127,7 +133,7 @@ pub fn dogleg(
     hessian: &[f64],
     step: &mut [f64],
     scratch: &mut [f64],
-) -> Stepped
+) -> Result<Stepped, Refusal>
     ensures { Took (called true Dogleg.dogleg n radius gradient.now hessian.now step.old scratch.old)
         result step.old step.new scratch.old scratch.new }
 {

@@ -11,11 +11,11 @@ use crate::workspace;
 use vectors::refusal::{Refusal, Verdict};
 use vectors::{refusal, vector};
 
-// A step that was made in so many passes, with its norm; or why there is none.
-#[derive(Clone, Copy)]
-pub enum Stepped {
-    In(u64, f64),
-    Refused(Refusal),
+// That a step was made: in how many passes, and its norm.
+#[derive(Clone, Copy, Debug, PartialEq)]
+pub struct Stepped {
+    pub passes: u64,
+    pub norm: f64,
 }
 
 // Finite, and above zero.
@@ -79,7 +79,7 @@ pub(crate) fn checked(
 }
 
 // The end of every kernel: slot 0 is its step, unless refusal 8 is due.
-pub(crate) fn settle(n: usize, w: &mut [f64], passes: u64) -> Stepped
+pub(crate) fn settle(n: usize, w: &mut [f64], passes: u64) -> Result<Stepped, Refusal>
     requires { n ≤ length w.old }
     ensures { Laid (handed_out (made passes (slot w.old n 0))) result w.old w.new }
 {
@@ -88,31 +88,32 @@ pub(crate) fn settle(n: usize, w: &mut [f64], passes: u64) -> Stepped
 }
 
 // The same for a kernel that knows the norm of its step. Where a number of the step is not finite, its norm is not.
-pub(crate) fn settle_by(n: usize, w: &mut [f64], passes: u64, norm: f64) -> Stepped
+pub(crate) fn settle_by(n: usize, w: &mut [f64], passes: u64, norm: f64) -> Result<Stepped, Refusal>
     requires { (n ≤ length w.old) × (norm ≡ Vector.norm (slot w.old n 0)) }
     ensures { Laid (handed_out (made passes (slot w.old n 0))) result w.old w.new }
 {
     if !float::finite(norm) {
         vector::clear(w);
-        return Stepped::Refused(Refusal::Range);
+        return Err(Refusal::Range);
     }
     vector::clear(&mut w[n..]);
-    Stepped::In(passes, norm)
+    Ok(Stepped { passes, norm })
 }
 
 // What a session's kernel laid out in w, handed to a direct caller: the step is copied, and its place in
 // w cleared. Behind it w is +0 already.
-pub(crate) fn hand_over(n: usize, found: Stepped, step: &mut [f64], w: &mut [f64]) -> Stepped
+pub(crate) fn hand_over(
+    n: usize,
+    found: Result<Stepped, Refusal>,
+    step: &mut [f64],
+    w: &mut [f64],
+) -> Result<Stepped, Refusal>
     requires { (length step.old ≡ n) × (n ≤ length w.old) }
     ensures { (result ≡ found) × (step.new ≡ handed_over found (slot w.old n 0) step.old)
         × (w.new ≡ handed_over found (zeros n ++ drop n w.old) w.old) }
 {
-    match found {
-        Stepped::In(passes, norm) => {
-            workspace::put(n, step, 0, workspace::part(n, w, 0));
-            vector::clear(&mut w[..n]);
-            Stepped::In(passes, norm)
-        }
-        Stepped::Refused(r) => Stepped::Refused(r),
-    }
+    let made = found?;
+    workspace::put(n, step, 0, workspace::part(n, w, 0));
+    vector::clear(&mut w[..n]);
+    Ok(made)
 }

@@ -272,7 +272,7 @@ fn start(n: usize, w: &mut [f64], g: &[f64]) -> f64
 }
 
 // The point that a pass chose, in slot 6, is the step.
-fn settle_chosen(n: usize, w: &mut [f64], passes: u64) -> Stepped
+fn settle_chosen(n: usize, w: &mut [f64], passes: u64) -> Result<Stepped, Refusal>
     requires { 8 * n ≤ length w.old }
     ensures { Laid (handed_out (made passes (slot w.old n 6))) result w.old w.new }
 {
@@ -281,7 +281,7 @@ fn settle_chosen(n: usize, w: &mut [f64], passes: u64) -> Stepped
 }
 
 // The point at which the passes ended is the step.
-fn settle(n: usize, w: &mut [f64], end: Exit) -> Stepped
+fn settle(n: usize, w: &mut [f64], end: Exit) -> Result<Stepped, Refusal>
     requires { (8 * n ≤ length w.old) × Proper n (then handed_out (ran end n w.old)) }
     ensures { Laid (then handed_out (ran end n w.old)) result w.old w.new }
 {
@@ -291,7 +291,7 @@ fn settle(n: usize, w: &mut [f64], end: Exit) -> Stepped
         Exit::Inside(passes) => settle_chosen(n, w, passes),
         Exit::Refused(r) => {
             vector::clear(w);
-            Stepped::Refused(r)
+            Err(r)
         }
     }
 }
@@ -305,7 +305,7 @@ pub(crate) fn lay(
     g: &[f64],
     h: &[f64],
     w: &mut [f64],
-) -> Stepped
+) -> Result<Stepped, Refusal>
     requires { Square n (length h.now) × (length g.now ≡ n) × Roomy n (length w.old) }
     ensures { Laid (Steihaug.steihaug epsilon limit n radius g.now h.now) result w.old w.new }
 {
@@ -328,7 +328,7 @@ pub fn steihaug(
     hessian: &[f64],
     step: &mut [f64],
     scratch: &mut [f64],
-) -> Stepped
+) -> Result<Stepped, Refusal>
     ensures { Took (called (bounded epsilon limit) (Steihaug.steihaug epsilon limit) n radius gradient.now hessian.now step.old scratch.old)
         result step.old step.new scratch.old scratch.new }
 {

@@ -39,7 +39,13 @@ fn outside(n: usize, radius: f64, curvature: f64, g: &[f64], w: &mut [f64])
 }
 
 // The kernel for a session, which has made its own checks.
-pub(crate) fn lay(n: usize, radius: f64, g: &[f64], h: &[f64], w: &mut [f64]) -> Stepped
+pub(crate) fn lay(
+    n: usize,
+    radius: f64,
+    g: &[f64],
+    h: &[f64],
+    w: &mut [f64],
+) -> Result<Stepped, Refusal>
     requires { Square n (length h.now) × (length g.now ≡ n) × Roomy n (length w.old) }
     ensures { Laid (Textbook.textbook_dogleg n radius g.now h.now) result w.old w.new }
 {
@@ -50,7 +56,7 @@ pub(crate) fn lay(n: usize, radius: f64, g: &[f64], h: &[f64], w: &mut [f64]) ->
     }
     if !dogleg::newton(n, w, g, h) {
         vector::clear(w);
-        return Stepped::Refused(Refusal::Pivot);
+        return Err(Refusal::Pivot);
     }
     let norm = workspace::norm(n, w, 0);
     if norm <= radius {
@@ -68,7 +74,7 @@ pub fn textbook_dogleg(
     hessian: &[f64],
     step: &mut [f64],
     scratch: &mut [f64],
-) -> Stepped
+) -> Result<Stepped, Refusal>
     ensures { Took (called true Textbook.textbook_dogleg n radius gradient.now hessian.now step.old scratch.old)
         result step.old step.new scratch.old scratch.new }
 {
