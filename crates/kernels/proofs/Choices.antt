@@ -8,7 +8,7 @@ use lib.ListN.{length}
 use lib.Ieee.{Float}
 use borrow.Author.Tests.{eq-eqb, ne_eqb}
 use Rattle.std.specs.Prelude.{Result, Err}
-use Rattle.vectors.specs.Refusal.{all_hold, size, sized, room}
+use Rattle.vectors.specs.Refusal.{checked, all_hold, size, sized, room}
 use Rattle.kernels.specs.Kernel.{Proper, Laid}
 use Rattle.kernels.specs.CauchyPoint.{cauchy_point}
 use Rattle.kernels.specs.Dogleg.{dogleg}
@@ -20,7 +20,7 @@ use Rattle.kernels.specs.declared.kernel.Stepped.{Stepped}
 use Rattle.vectors.specs.declared.refusal.Refusal.{Refusal}
 use Rattle.kernels.specs.declared.choice.Choice.{Choice}
 use Rattle.vectors.proofs.Sizes.{each_holds, size_test}
-use Rattle.kernels.proofs.Kernels.{Lent}
+use Rattle.kernels.proofs.Kernels.{Lent, was_wrong}
 use Rattle.kernels.proofs.CauchyPoints.{cauchy_proper}
 use Rattle.kernels.proofs.Doglegs.{dogleg_proper}
 use Rattle.kernels.proofs.Textbooks.{textbook_proper}
@@ -57,13 +57,18 @@ module _ (c : Choice) (n : ℕ) (radius : Float) (g H w : List Float) where
   abbrev sizes : Bool
   sizes = all_hold (size n ∷ sized (n * n) H ∷ sized n g ∷ eqb n n ∷ sized (room n) w ∷ [])
 
-  pub shut_size : sizes ≡ false → Laid (door c n radius g H w) (Err Size) w w
-  unfolding door
-  shut_size e = rw (sym (no_step n (length H) (length g) (length w)) ∙ e) (record { says = refl; lays = refl })
+  module _ (e : Refusal) (t : Bool) where
+    pub shut_size : t ≡ sizes → Err e ≡ checked Size t → Laid (door c n radius g H w) (Err e) w w
+    unfolding door
+    shut_size a b =
+        let wrong = was_wrong Size e t b in
+        rw (wrong.1, sym (no_step n (length H) (length g) (length w)) ∙ sym a ∙ wrong.0) (record { says = refl; lays = refl })
 
-  pub shut_kernel : sizes ≡ true → known c ≡ false → Laid (door c n radius g H w) (Err Setting) w w
-  unfolding door
-  shut_kernel e k = rw (sym (no_step n (length H) (length g) (length w)) ∙ e, k) (record { says = refl; lays = refl })
+    pub shut_kernel : sizes ≡ true → t ≡ known c → Err e ≡ checked Setting t → Laid (door c n radius g H w) (Err e) w w
+    unfolding door
+    shut_kernel s a b =
+        let wrong = was_wrong Setting e t b in
+        rw (wrong.1, sym (no_step n (length H) (length g) (length w)) ∙ s, sym a ∙ wrong.0) (record { says = refl; lays = refl })
 
 -- ---- which kernel a number names, and what it laid
 

@@ -13,7 +13,7 @@ use Rattle.kernels.specs.Inverse.{Rows, found, start, pivot_bound, columns, elim
 use Rattle.vectors.proofs.Sizes.{each_holds, square_by}
 use Rattle.kernels.proofs.Rows.{found_none, found_rows}
 use Rattle.vectors.specs.declared.refusal.Refusal.TheVariants.{Size, Entry, Pivot}
-use Rattle.vectors.specs.declared.refusal.Outcome.TheVariants.{Written, Refused}
+use Rattle.std.specs.Prelude.{Ok, Err}
 
 -- ---- the inverse
 
@@ -38,20 +38,20 @@ module _ (n : ℕ) (H out w : List Float) where
   abbrev sizes : Bool
   sizes = all_hold (size n ∷ sized (n * n) H ∷ sized (n * n) out ∷ sized (room n) w ∷ [])
 
-  pub bad_size : sizes ≡ false → Ended (inverse_answer n H out w) (Refused Size) out out w w
+  pub bad_size : sizes ≡ false → Ended (inverse_answer n H out w) (Err Size) out out w w
   unfolding inverse_answer
   bad_size a = rw a (record { wrote = record { says = refl; leaves = refl }; clears = refl })
 
   module _ (a : sizes ≡ true) where
-    pub bad_entry : all_finite H ≡ false → Ended (inverse_answer n H out w) (Refused Entry) out out w w
+    pub bad_entry : all_finite H ≡ false → Ended (inverse_answer n H out w) (Err Entry) out out w w
     unfolding inverse_answer
     bad_entry b = rw (a, b) (record { wrote = record { says = refl; leaves = refl }; clears = refl })
 
     module _ (b : all_finite H ≡ true) (r : Bool) (R : Rows) (len : ℕ) (w' : List Float) (e : found r R ≡ eliminated n H) (l : len ≡ length w) (z : w' ≡ zeros len) where
-      pub bad_pivot : r ≡ false → Ended (inverse_answer n H out w) (Refused Pivot) out out w w'
+      pub bad_pivot : r ≡ false → Ended (inverse_answer n H out w) (Err Pivot) out out w w'
       unfolding inverse_answer
       bad_pivot h = rw (a, b, ← found_none r R (eliminated n H) e h) (record { wrote = record { says = refl; leaves = refl }; clears = z ∙ ap zeros l })
 
-      pub inverted : (out' : List Float) → r ≡ true → out' ≡ flat n (right_row n R) → Ended (inverse_answer n H out w) Written out out' w w'
+      pub inverted : (out' : List Float) → r ≡ true → out' ≡ flat n (right_row n R) → Ended (inverse_answer n H out w) (Ok tt) out out' w w'
       unfolding inverse_answer
       inverted out' h f = rw (a, b, ← found_rows r R (eliminated n H) e h) (record { wrote = record { says = ap given f; leaves = f }; clears = z ∙ ap zeros l })

@@ -15,12 +15,10 @@ use Rattle.float.specs.Constants.{nought}
 use Rattle.float.specs.Numbers.{finite}
 use Rattle.vectors.specs.Vector.{tab, zeros, all_finite, norm}
 use Rattle.vectors.specs.Slots.{slot}
-use Rattle.vectors.specs.Refusal.{Answer, refused, given, Check, ◌if◌, unless, judged, then, all_hold, untouched_by, size, sized, room, Square, Roomy}
+use Rattle.vectors.specs.Refusal.{Answer, refused, given, Check, ◌if◌, unless, judged, checked, then, all_hold, untouched_by, size, sized, room, Square, Roomy}
 use Rattle.kernels.specs.Kernel.{Kernel, Made, made, handed_out, sound_step, positive, Proper, stepped, laid_out, Laid, handed_over, Took, kernel_checks, called}
 use Rattle.vectors.specs.declared.refusal.Refusal.{Refusal}
 use Rattle.vectors.specs.declared.refusal.Refusal.TheVariants.{Size, Setting, Entry, Range}
-use Rattle.vectors.specs.declared.refusal.Verdict.{Verdict}
-use Rattle.vectors.specs.declared.refusal.Verdict.TheVariants.{Passed, Failed}
 use Rattle.kernels.specs.declared.kernel.Stepped.{Stepped}
 use Rattle.vectors.proofs.Norms.{norm_tells}
 use Rattle.vectors.proofs.Sizes.{each_holds, square_by}
@@ -28,19 +26,19 @@ use Rattle.kernels.proofs.Rows.{low_room}
 
 -- ---- a list of checks, and the verdict on it
 
-passed_one : {A : Type 0} (b : Bool) (r : Refusal) (v : Verdict) (o a : Answer A) → (v ≡ Passed → o ≡ a) → cond b (Failed r) v ≡ Passed → cond b (refused r) o ≡ a
+passed_one : {A : Type 0} (b : Bool) (r : Refusal) (v : Result (Unit {0}) Refusal) (o a : Answer A) → (v ≡ Ok tt → o ≡ a) → cond b (Err r) v ≡ Ok tt → cond b (refused r) o ≡ a
 passed_one true r v o a f e = cc
 passed_one false r v o a f e = f e
 
-pub unless_passed : {A : Type 0} (cs : List Check) (a : Answer A) → judged cs ≡ Passed → unless cs a ≡ a
+pub unless_passed : {A : Type 0} (cs : List Check) (a : Answer A) → judged cs ≡ Ok tt → unless cs a ≡ a
 unless_passed [] a e = refl
 unless_passed (c ∷ cs) a e = passed_one c.applies c.refusal (judged cs) (unless cs a) a (unless_passed cs a) e
 
-failed_one : {A : Type 0} (b : Bool) (r s : Refusal) (v : Verdict) (o : Answer A) → (v ≡ Failed s → o ≡ refused s) → cond b (Failed r) v ≡ Failed s → cond b (refused r) o ≡ refused s
+failed_one : {A : Type 0} (b : Bool) (r s : Refusal) (v : Result (Unit {0}) Refusal) (o : Answer A) → (v ≡ Err s → o ≡ refused s) → cond b (Err r) v ≡ Err s → cond b (refused r) o ≡ refused s
 failed_one true r s v o f e = cc
 failed_one false r s v o f e = f e
 
-pub unless_failed : {A : Type 0} (cs : List Check) (a : Answer A) (r : Refusal) → judged cs ≡ Failed r → unless cs a ≡ refused r
+pub unless_failed : {A : Type 0} (cs : List Check) (a : Answer A) (r : Refusal) → judged cs ≡ Err r → unless cs a ≡ refused r
 unless_failed [] a r e = cc
 unless_failed (c ∷ cs) a r e = failed_one c.applies c.refusal r (judged cs) (unless cs a) (unless_failed cs a r) e
 
@@ -49,18 +47,23 @@ abbrev pub Early : List Check → Type 0
 Early [] = Unit {0}
 Early (c ∷ cs) = (untouched_by c.refusal ≡ true) × Early cs
 
-early_one : (b : Bool) (r s : Refusal) (v : Verdict) → untouched_by r ≡ true → (v ≡ Failed s → untouched_by s ≡ true) → cond b (Failed r) v ≡ Failed s → untouched_by s ≡ true
+early_one : (b : Bool) (r s : Refusal) (v : Result (Unit {0}) Refusal) → untouched_by r ≡ true → (v ≡ Err s → untouched_by s ≡ true) → cond b (Err r) v ≡ Err s → untouched_by s ≡ true
 early_one true r s v h f e = let same : s ≡ r = cc in rw same h
 early_one false r s v h f e = f e
 
-pub early : (cs : List Check) (r : Refusal) → Early cs → judged cs ≡ Failed r → untouched_by r ≡ true
+pub early : (cs : List Check) (r : Refusal) → Early cs → judged cs ≡ Err r → untouched_by r ≡ true
 early [] r h e = absurd (let z : ◌≡◌ {A = ℕ} 0 1 = cc in omega arith)
 early (c ∷ cs) r h e = early_one c.applies c.refusal r (judged cs) h.0 (early cs r h.1) e
 
 -- the first of the checks has passed where all have
-pub first_passed : (t : Bool) (r : Refusal) (cs : List Check) → judged ((r if not t) ∷ cs) ≡ Passed → t ≡ true
+pub first_passed : (t : Bool) (r : Refusal) (cs : List Check) → judged ((r if not t) ∷ cs) ≡ Ok tt → t ≡ true
 first_passed true r cs e = refl
 first_passed false r cs e = cc
+
+-- what `?` gave back of a check
+pub was_wrong : (r e : Refusal) (right : Bool) → Err e ≡ checked r right → (right ≡ false) × (e ≡ r)
+was_wrong r e true h = cc
+was_wrong r e false h = (refl, cc)
 
 -- what a kernel was lent, where its sizes are right
 pub record Lent (n h g s scratch : ℕ) : Type 0 where
@@ -87,19 +90,18 @@ lay_ready l = (l.square, l.gradient, l.roomy)
 pub over_ready : {n h g s scratch : ℕ} (scratch' : ℕ) → Lent n h g s scratch → scratch' ≡ scratch → (s ≡ n) × (n ≤ scratch')
 over_ready {n} scratch' l e = (l.step, omega (arith, low_room l.roomy 0 (omega arith)))
 
--- v is the code's verdict
-module _ (settings : Bool) (n : ℕ) (radius : Float) (g H step w : List Float) (v : Verdict) (judges : v ≡ judged (kernel_checks settings n radius g H step w)) where
-  pub lent : v ≡ Passed → Lent n (length H) (length g) (length step) (length w)
-  lent e =
+module _ (settings : Bool) (n : ℕ) (radius : Float) (g H step w : List Float) where
+  pub lent : {u : Unit {0}} → Ok u ≡ judged (kernel_checks settings n radius g H step w) → Lent n (length H) (length g) (length step) (length w)
+  lent judges =
       lent_true n (length H) (length g) (length step) (length w)
-      (first_passed (all_hold (size n ∷ sized (n * n) H ∷ sized n g ∷ sized n step ∷ sized (room n) w ∷ [])) Size ((Setting if not (positive radius && settings)) ∷ (Entry if not (all_finite g && all_finite H)) ∷ []) (sym judges ∙ e))
+      (first_passed (all_hold (size n ∷ sized (n * n) H ∷ sized n g ∷ sized n step ∷ sized (room n) w ∷ [])) Size ((Setting if not (positive radius && settings)) ∷ (Entry if not (all_finite g && all_finite H)) ∷ []) (sym judges))
 
   -- a kernel that they end
-  pub took_none : (kernel : Kernel) (r : Refusal) → v ≡ Failed r → Took (called settings kernel n radius g H step w) (Err r) step step w w
+  pub took_none : {r : Refusal} → Err r ≡ judged (kernel_checks settings n radius g H step w) → (kernel : Kernel) → Took (called settings kernel n radius g H step w) (Err r) step step w w
   unfolding called
-  took_none kernel r e =
+  took_none {r} judges kernel =
       let cs = kernel_checks settings n radius g H step w in
-      rw (unless_failed cs (kernel n radius g H) r (sym judges ∙ e)) (record { says = refl; leaves = refl; clears = rw (early cs r (refl, (refl, (refl, tt))) (sym judges ∙ e)) })
+      rw (unless_failed cs (kernel n radius g H) r (sym judges)) (record { says = refl; leaves = refl; clears = rw (early cs r (refl, (refl, (refl, tt))) (sym judges)) })
 
 -- ---- the answers that a kernel may give
 
@@ -203,7 +205,7 @@ module _ (n : ℕ) (found r : Result Stepped Refusal) (step step' w w₁ w' : Li
     clears = h.2 ∙ ap (λ (s : Result Stepped Refusal). handed_over s (zeros n ++ drop n w₁) w₁) laid.says ∙ ap (λ (u : List Float). zeros n ++ drop n u) laid.lays ∙ cleared_laid m.step n (length w) (omega arith) b;
   }
 
-  pub took : (settings : Bool) (kernel : Kernel) (radius : Float) (g H : List Float) (v : Verdict) → v ≡ judged (kernel_checks settings n radius g H step w) → v ≡ Passed
+  pub took : (settings : Bool) (kernel : Kernel) (radius : Float) (g H : List Float) → {u : Unit {0}} → Ok u ≡ judged (kernel_checks settings n radius g H step w)
       → Proper n (kernel n radius g H) → Laid (kernel n radius g H) found w w₁ → Took (called settings kernel n radius g H step w) r step step' w w'
   unfolding called
-  took settings kernel radius g H v j e p laid = rw (unless_passed (kernel_checks settings n radius g H step w) (kernel n radius g H) (sym j ∙ e)) (took_one (kernel n radius g H) p laid)
+  took settings kernel radius g H j p laid = rw (unless_passed (kernel_checks settings n radius g H step w) (kernel n radius g H) (sym j)) (took_one (kernel n radius g H) p laid)

@@ -8,7 +8,7 @@ use native.Mathlib.Omega.{arith}
 use lib.ListN.{length, take}
 use lib.Seq.{take_at, length-take-le}
 use lib.Ieee.{Float, lt, le, neg, is_nan}
-use Rattle.std.specs.Prelude.{Result}
+use Rattle.std.specs.Prelude.{Result, Ok, Err}
 use Rattle.float.specs.Numbers.{◌⊕◌, ◌⊖◌, ◌⊗◌, ◌⊘◌, square, finite}
 use Rattle.float.specs.Constants.{nought, one, two, half}
 use Rattle.float.proofs.Order.{lt_self}
@@ -23,8 +23,6 @@ use Rattle.kernels.specs.Steihaug.{roots, roots_at, listed, ahead, model, valued
 use Rattle.kernels.specs.declared.kernel.Stepped.{Stepped}
 use Rattle.vectors.specs.declared.refusal.Refusal.{Refusal}
 use Rattle.vectors.specs.declared.refusal.Refusal.TheVariants.{Root}
-use Rattle.vectors.specs.declared.vector.Number.{Number}
-use Rattle.vectors.specs.declared.vector.Number.TheVariants.{Is, Refused}
 use Rattle.kernels.specs.declared.workspace.Op.TheVariants.{Same, PlusTimes, TurnedPlusTimes}
 use Rattle.kernels.specs.declared.steihaug.Roots.{Roots}
 use Rattle.kernels.specs.declared.steihaug.Roots.TheVariants.{Two, Three}
@@ -127,14 +125,14 @@ module _ (n : ℕ) (g H w w₁ w₂ : List Float) (ts : Roots) (x y : Float) (a 
 
 -- ---- forward
 
-module _ (held : Number) (x t : Float) (e : held ≡ Is x) where
+module _ (held : Result Float Refusal) (x t : Float) (e : held ≡ Ok x) where
   pub outgrown : lt x t ≡ true → given t ≡ larger (tells held) t
   outgrown f = rw (e, f)
 
   pub stands : lt x t ≡ false → given x ≡ larger (tells held) t
   stands f = rw (e, f)
 
-module _ (held : Number) (r : Refusal) (t : Float) (e : held ≡ Refused r) where
+module _ (held : Result Float Refusal) (r : Refusal) (t : Float) (e : held ≡ Err r) where
   pub first_found : le nought t ≡ true → given t ≡ larger (tells held) t
   first_found f = rw (e, f)
 
@@ -164,12 +162,12 @@ module _ (w w' : List Float) (n k x y : ℕ) where
 
 -- ---- the ends of a pass
 
-module _ (n : ℕ) (tau : Number) (w : List Float) where
-  pub at_point : (w' : List Float) (t : Float) → tau ≡ Is t → Puts w n 6 (ahead n (slot w n 0) (slot w n 2) t) w'
+module _ (n : ℕ) (tau : Result Float Refusal) (w : List Float) where
+  pub at_point : (w' : List Float) (t : Float) → tau ≡ Ok t → Puts w n 6 (ahead n (slot w n 0) (slot w n 2) t) w'
       → stops (given (slot w' n 6)) ≡ stops_at n (slot w n 0) (slot w n 2) (tells tau)
   at_point w' t e put = rw (e, put 6)
 
-  pub no_point : (r : Refusal) → tau ≡ Refused r → stops (refused r) ≡ stops_at n (slot w n 0) (slot w n 2) (tells tau)
+  pub no_point : (r : Refusal) → tau ≡ Err r → stops (refused r) ≡ stops_at n (slot w n 0) (slot w n 2) (tells tau)
   no_point r e = rw e
 
 module _ (n : ℕ) (radius : Float) (w ts : List Float) (tau : Answer Float) (o : Pass) (e : ts ≡ roots_at radius (slot w n 0) (slot w n 2)) where

@@ -8,7 +8,7 @@ ghost use Rattle.kernels.specs.Choice.{by_default, choice_of, choosing, in_range
 use crate::kernel::Stepped;
 use crate::{cauchypoint, dogleg, kernel, steihaug, textbook};
 use vectors::refusal;
-use vectors::refusal::{Refusal, Verdict};
+use vectors::refusal::Refusal;
 
 // Which kernel, and what it is told beside the radius and its lists: epsilon and the limit are Steihaug's, and of the two
 // doglegs 1 is the ported one, 2 the textbook's.
@@ -65,10 +65,11 @@ fn among(number: u64, last: u64) -> bool
 }
 
 // The number of a kernel, and that of a dogleg, whatever the kernel.
+#[tactic(auto, unfolding(crate::specs::Choice::known))]
 fn known(choice: Choice) -> bool
     ensures { result ≡ Definition.known choice }
 {
-    refusal::both(among(choice.kernel, 3), among(choice.dogleg, 2))
+    among(choice.kernel, 3) && among(choice.dogleg, 2)
 }
 
 // What a session asks of its choice, whatever the kernel.
@@ -133,12 +134,8 @@ pub fn lay_unchecked(
     ensures { Laid (door choice n radius gradient.now hessian.now scratch.old) result scratch.old scratch.new }
 {
     // no step is lent here, hence n for its length
-    if !kernel::sized(n, hessian.len(), gradient.len(), n, scratch.len()) {
-        return Err(Refusal::Size);
-    }
-    if !known(choice) {
-        return Err(Refusal::Setting);
-    }
+    Refusal::Size.unless(kernel::sized(n, hessian.len(), gradient.len(), n, scratch.len()))?;
+    Refusal::Setting.unless(known(choice))?;
     chosen(choice, n, radius, gradient, hessian, scratch)
 }
 
@@ -155,21 +152,15 @@ pub fn direct(
     ensures { Took (called (Definition.asked choice) (Definition.kernel choice) n radius gradient.now hessian.now step.old scratch.old)
         result step.old step.new scratch.old scratch.new }
 {
-    let settings = asked(choice);
-    let verdict = kernel::checked(
-        settings,
+    kernel::checked(
+        asked(choice),
         n,
         radius,
         gradient,
         hessian,
         step.len(),
         scratch.len(),
-    );
-    match verdict {
-        Verdict::Failed(r) => Err(r),
-        Verdict::Passed => {
-            let found = chosen(choice, n, radius, gradient, hessian, scratch);
-            kernel::hand_over(n, found, step, scratch)
-        }
-    }
+    )?;
+    let found = chosen(choice, n, radius, gradient, hessian, scratch);
+    kernel::hand_over(n, found, step, scratch)
 }

@@ -8,7 +8,7 @@ ghost use Rattle.kernels.specs.Inverse as Inverse;
 
 use crate::workspace;
 use crate::workspace::Op;
-use vectors::refusal::{Outcome, Refusal};
+use vectors::refusal::Refusal;
 use vectors::{refusal, vector};
 
 // Number k of row i of [H | I].
@@ -199,21 +199,21 @@ fn sized(n: usize, h: usize, out: usize, scratch: usize) -> bool
 }
 
 // The inverse of h, into out.
-pub fn inverse(n: usize, h: &[f64], out: &mut [f64], scratch: &mut [f64]) -> Outcome
+pub fn inverse(n: usize, h: &[f64], out: &mut [f64], scratch: &mut [f64]) -> Result<(), Refusal>
     ensures { Ended (Inverse.inverse_answer n h.now out.old scratch.old)
         result out.old out.new scratch.old scratch.new }
 {
     if !sized(n, h.len(), out.len(), scratch.len()) {
-        return Outcome::Refused(Refusal::Size);
+        return Err(Refusal::Size);
     }
     if !vector::all_finite(h) {
-        return Outcome::Refused(Refusal::Entry);
+        return Err(Refusal::Entry);
     }
     if !eliminate(n, scratch, h) {
         vector::clear(scratch);
-        return Outcome::Refused(Refusal::Pivot);
+        return Err(Refusal::Pivot);
     }
     hand_out(n, scratch, out);
     vector::clear(scratch);
-    Outcome::Written
+    Ok(())
 }

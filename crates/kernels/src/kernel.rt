@@ -8,7 +8,7 @@ ghost use Rattle.kernels.specs.Kernel as Kernel;
 ghost use Rattle.kernels.specs.Kernel.{made, handed_out, handed_over, kernel_checks, Laid};
 
 use crate::workspace;
-use vectors::refusal::{Refusal, Verdict};
+use vectors::refusal::Refusal;
 use vectors::{refusal, vector};
 
 // That a step was made: in how many passes, and its norm.
@@ -23,35 +23,14 @@ pub struct Stepped {
 pub fn positive(x: f64) -> bool
     ensures { result ≡ Kernel.positive x }
 {
-    if !float::finite(x) {
-        return false;
-    }
-    0.0 < x
+    float::finite(x) && 0.0 < x
 }
 
 // The lengths of a kernel's matrix, gradient, step and scratch.
 pub(crate) fn sized(n: usize, h: usize, g: usize, step: usize, scratch: usize) -> bool
     ensures { result ≡ all_hold (size n ∷ eqb h (n * n) ∷ eqb g n ∷ eqb step n ∷ eqb scratch (room n) ∷ []) }
 {
-    if !refusal::size(n) {
-        return false;
-    }
-    refusal::all_hold(&[
-        h == n * n,
-        g == n,
-        step == n,
-        scratch == 2 * (n * n) + 8 * n,
-    ])
-}
-
-// The radius, and what the kernel asks of its settings beside it.
-fn settings_right(radius: f64, settings: bool) -> bool
-    ensures { result ≡ (Kernel.positive radius && settings) }
-{
-    if !positive(radius) {
-        return false;
-    }
-    settings
+    refusal::shaped(n, h, g, step) && scratch == 2 * (n * n) + 8 * n
 }
 
 // The checks before a kernel that is called directly; of the step and the scratch only the lengths count.
@@ -63,19 +42,13 @@ pub(crate) fn checked(
     h: &[f64],
     step: usize,
     scratch: usize,
-) -> Verdict
+) -> Result<(), Refusal>
     ensures { (s w : List Float) → length s ≡ step → length w ≡ scratch → result ≡ judged (kernel_checks settings n radius g.now h.now s w) }
 {
-    if !sized(n, h.len(), g.len(), step, scratch) {
-        return Verdict::Failed(Refusal::Size);
-    }
-    if !settings_right(radius, settings) {
-        return Verdict::Failed(Refusal::Setting);
-    }
-    if !vector::both_finite(g, h) {
-        return Verdict::Failed(Refusal::Entry);
-    }
-    Verdict::Passed
+    Refusal::Size.unless(sized(n, h.len(), g.len(), step, scratch))?;
+    Refusal::Setting.unless(positive(radius) && settings)?;
+    Refusal::Entry.unless(vector::both_finite(g, h))?;
+    Ok(())
 }
 
 // The end of every kernel: slot 0 is its step, unless refusal 8 is due.

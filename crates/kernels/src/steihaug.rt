@@ -16,7 +16,6 @@ use crate::workspace::Op;
 use crate::{choice, inner, kernel, workspace};
 use vectors::refusal::Refusal;
 use vectors::vector;
-use vectors::vector::Number;
 
 // The roots, in document 01's order.
 #[derive(Clone, Copy)]
@@ -105,24 +104,24 @@ fn lesser(held: Valued, next: Valued) -> Valued
     held
 }
 
-fn least(a: Valued, b: Valued, c: Valued) -> Number
+fn least(a: Valued, b: Valued, c: Valued) -> Result<f64, Refusal>
     ensures { tells result ≡ Steihaug.by_model (a ∷ b ∷ c ∷ []) }
 {
     if float::is_nan(a.model) {
-        return Number::Refused(Refusal::Root);
+        return Err(Refusal::Root);
     }
     if float::is_nan(b.model) {
-        return Number::Refused(Refusal::Root);
+        return Err(Refusal::Root);
     }
     if float::is_nan(c.model) {
-        return Number::Refused(Refusal::Root);
+        return Err(Refusal::Root);
     }
     let found = lesser(lesser(a, b), c);
-    Number::Is(found.tau)
+    Ok(found.tau)
 }
 
 // Of two roots the second stands for the third as well: it can't take its own place.
-fn by_model(n: usize, w: &mut [f64], roots: Roots, g: &[f64], h: &[f64]) -> Number
+fn by_model(n: usize, w: &mut [f64], roots: Roots, g: &[f64], h: &[f64]) -> Result<f64, Refusal>
     requires { Square n (length h.now) × (length g.now ≡ n) × (8 * n ≤ length w.old) }
     ensures { (tells result ≡ Steihaug.by_model (map (Steihaug.valued n g.now h.now (slot w.old n 0) (slot w.old n 2)) (listed roots)))
         × Keeps n w.old w.new }
@@ -143,29 +142,29 @@ fn by_model(n: usize, w: &mut [f64], roots: Roots, g: &[f64], h: &[f64]) -> Numb
 }
 
 // The one held stays on a tie.
-fn larger(held: Number, t: f64) -> Number
+fn larger(held: Result<f64, Refusal>, t: f64) -> Result<f64, Refusal>
     ensures { tells result ≡ Steihaug.larger (tells held) t }
 {
     match held {
-        Number::Is(x) => {
+        Ok(x) => {
             if x < t {
-                return Number::Is(t);
+                return Ok(t);
             }
-            Number::Is(x)
+            Ok(x)
         }
-        Number::Refused(r) => {
+        Err(r) => {
             if 0.0 <= t {
-                return Number::Is(t);
+                return Ok(t);
             }
-            Number::Refused(r)
+            Err(r)
         }
     }
 }
 
-fn forward(roots: Roots) -> Number
+fn forward(roots: Roots) -> Result<f64, Refusal>
     ensures { tells result ≡ Steihaug.forward (listed roots) }
 {
-    let none = Number::Refused(Refusal::Root);
+    let none = Err(Refusal::Root);
     match roots {
         Roots::Two(first, second) => larger(larger(none, first), second),
         Roots::Three(first, second, third) => larger(larger(larger(none, first), second), third),
@@ -173,16 +172,16 @@ fn forward(roots: Roots) -> Number
 }
 
 // p + d·tau, into slot 6.
-fn stop_at(n: usize, w: &mut [f64], tau: Number) -> Turn
+fn stop_at(n: usize, w: &mut [f64], tau: Result<f64, Refusal>) -> Turn
     requires { 8 * n ≤ length w.old }
     ensures { passed result n w.new ≡ Steihaug.stops_at n (slot w.old n 0) (slot w.old n 2) (tells tau) }
 {
     match tau {
-        Number::Is(t) => {
+        Ok(t) => {
             workspace::each(n, w, 6, Op::PlusTimes(t), 0, 2);
             Turn::Boundary
         }
-        Number::Refused(r) => Turn::Refused(r),
+        Err(r) => Turn::Refused(r),
     }
 }
 

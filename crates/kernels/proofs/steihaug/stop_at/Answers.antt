@@ -2,8 +2,8 @@
 use Rattle.kernels.proofs.Passes.{put_ahead, at_point, no_point}
 use Rattle.kernels.proofs.steihaug.stop_at.Goals as goal
 
-pub returns-in-Is : goal.returns-in-Is
-returns-in-Is c = at_point _ _ _ _ _ c.in-Is.is (put_ahead _ _ _ 6 0 2 _ c.each.ensures)
+pub returns-in-Ok : goal.returns-in-Ok
+returns-in-Ok c = at_point _ _ _ _ _ c.in-Ok.is (put_ahead _ _ _ 6 0 2 _ c.each.ensures)
 
-pub returns-in-Refused : goal.returns-in-Refused
-returns-in-Refused c = no_point _ _ _ _ c.in-Refused.is
+pub returns-in-Err : goal.returns-in-Err
+returns-in-Err c = no_point _ _ _ _ c.in-Err.is
