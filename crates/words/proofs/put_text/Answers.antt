@@ -1,15 +1,15 @@
 -- `words::put_text` meets its contract. Assumes nothing.
-use mathlib.Core.Path.{sym, ◌∙◌}
-use borrow.Author.Tests.{leb-true}
-use Rattle.words.proofs.Laws.{placed_not}
+use Rattle.std.proofs.Common.{sym, ◌∙◌, arith, ◌≤◌, ◌+◌, length, refl}
+use Rattle.std.proofs.lemmas.Slice.{put_mid-paste}
+use Rattle.std.proofs.lemmas.Bool.{leb-true}
+use Rattle.words.proofs.Laws.{placed_not, placed_paste}
 use Rattle.words.proofs.put_text.Goals as goal
 
-pub write-requires : goal.write-requires
-write-requires c = leb-true _ _ (cc)
+pub returns-then-fits-clause-bytes_after : goal.returns-then-fits-clause-bytes_after
+returns-then-fits-clause-bytes_after c =
+    let v = c.args in
+    let there : v.at + length v.text.now ≤ length v.bytes.now = leb-true _ _ (cc) in
+    put_mid-paste _ _ _ _ v.text.now (length v.text.now) c.copy_from_slice.ensures.after (omega arith) refl ∙ sym (placed_paste _ _ _ there)
 
-pub returns-then-has_room : goal.returns-then-has_room
-returns-then-has_room c = record { value = sym c.if-has_room.true ∙ c.has_room.ensures; bytes_after = c.write.ensures }
-
-pub returns : goal.returns
-returns c = let unfit = sym c.if-has_room.false ∙ c.has_room.ensures in
-    record { value = unfit; bytes_after = sym (placed_not _ _ _ (sym unfit)) }
+pub returns-else-fits-clause-bytes_after : goal.returns-else-fits-clause-bytes_after
+returns-else-fits-clause-bytes_after c = sym (placed_not _ _ _ (cc))

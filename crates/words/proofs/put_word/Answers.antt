@@ -1,7 +1,7 @@
 -- `words::put_word` meets its contract. Assumes nothing.
-use Rattle.words.specs.Words.{bytes_of}
+use Rattle.std.proofs.Common.{◌∙◌}
+use Rattle.words.proofs.Laws.{le_bytes}
 use Rattle.words.proofs.put_word.Goals as goal
 
-pub returns : goal.returns
-unfolding bytes_of
-returns c = rw c.bytes_of-text.ensures at c.put_text.ensures
+pub returns-clause-bytes_after : goal.returns-clause-bytes_after
+returns-clause-bytes_after c = rw (c.to_le_bytes.ensures ∙ le_bytes c.args.word) at c.put_text.ensures.bytes_after
