@@ -5,22 +5,22 @@ use Rattle.std.specs.Float.Ieee.{to_bits}
 use Rattle.words.specs.Words.{hex_of}
 pub use Rattle.words.specs.Ascii.{ascii}
 use Rattle.stream.specs.Output.{Put, PutWhole}
+use Rattle.stream.specs.declared.output.Page.{Page}
 
 -- what a line is made of: texts, and whole numbers in decimal
 pub data Piece : Type 0 where
   text : List ℕ → Piece
   whole : ℕ → Piece
 
--- a piece was put on a page that was written up to `at`
-abbrev pub PutPiece : Piece → (page : List ℕ) (at : ℕ) (page' : List ℕ) (at' : ℕ) → Type 0
-PutPiece (text t) page at page' at' = Put page at t page' at'
-PutPiece (whole n) page at page' at' = PutWhole page at n page' at'
+-- a piece was put on a page
+abbrev pub PutPiece : Piece → (page page' : Page) → Type 0
+PutPiece (text t) page page' = Put t page page'
+PutPiece (whole n) page page' = PutWhole n page page'
 
 -- pieces were put on it, one after another
-pub data Puts : List Piece → (page : List ℕ) (at : ℕ) (page' : List ℕ) (at' : ℕ) → Type 0 where
-  none : {page : List ℕ} {at : ℕ} → Puts [] page at page at
-  one : {p : Piece} {ps : List Piece} {page page₁ page' : List ℕ} {at at₁ at' : ℕ} → PutPiece p page at page₁ at₁ → Puts ps page₁ at₁ page' at'
-      → Puts (p ∷ ps) page at page' at'
+pub data Puts : List Piece → (page page' : Page) → Type 0 where
+  none : {page : Page} → Puts [] page page
+  one : {p : Piece} {ps : List Piece} {page page₁ page' : Page} → PutPiece p page page₁ → Puts ps page₁ page' → Puts (p ∷ ps) page page'
 
 abbrev pub blank : Piece
 blank = text (ascii " ")

@@ -7,6 +7,5 @@ mod input;
 mod lines;
 mod output;
 
-pub use input::{Filled, Input, STDIN_FILENO, Word, next_word, numbers, start};
-pub use lines::{put_list, put_named, put_refused};
-pub use output::{Output, flush, put_blank, put_line_end, put_number, put_text, put_whole, top};
+pub use input::{Input, Over, STDIN_FILENO};
+pub use output::Page;

@@ -3,81 +3,84 @@ ghost use Rattle.std.specs.Prelude.{◌≡◌, [], ◌∷◌};
 ghost use Rattle.std.specs.Float.{binary64};
 ghost use Rattle.std.specs.Float.Ieee.{to_bits};
 ghost use Rattle.words.specs.Words.{hex_of};
-ghost use Rattle.stream.specs.Output.{Put, PutWhole};
+ghost use Rattle.stream.specs.Output.{Top, Left, Put, PutWhole};
 
 // Where the system has standard output.
 const STDOUT_FILENO: i32 = 1;
 
-// How far a page is written that has not left yet.
-#[derive(Clone, Copy)]
-pub struct Output {
+// Lent bytes, and how many of them are written that have not left yet.
+pub struct Page<'a> {
+    pub bytes: &'a mut [u8],
     pub at: usize,
 }
 
-// An empty page.
-pub fn top() -> Output
-    ensures { result.at ≡ 0 }
-{
-    let at = 0;
-    Output { at }
-}
-
-// Puts a text on the page. Where it has no room there, what is on the page leaves first; a text longer
-// than the page leaves at once.
-pub fn put_text(page: &mut [u8], output: Output, text: &[u8]) -> Output
-    ensures { Put page.old output.at text.now page.new result.at }
-{
-    let at = output.at;
-    let n = text.len();
-    if words::put_text(page, at, text) {
-        let past = at + n;
-        return Output { at: past };
+impl Page<'_> {
+    // An empty page.
+    pub fn new(bytes: &mut [u8]) -> Page<'_>
+        ensures { Top bytes.entry result }
+    {
+        Page { bytes, at: 0 }
     }
-    flush(page, output);
-    if words::put_text(page, 0, text) {
-        return Output { at: n };
+
+    // Puts a text on the page. Where it has no room there, what is on the page leaves first; a text longer
+    // than the page leaves at once.
+    pub fn put_text(&mut self, text: &[u8])
+        ensures { Put text.now self.old self.new }
+    {
+        let at = self.at;
+        if words::put_text(self.bytes, at, text) {
+            self.at = at + text.len();
+            return;
+        }
+        self.flush();
+        if words::put_text(self.bytes, 0, text) {
+            self.at = text.len();
+        } else {
+            io::write_all(STDOUT_FILENO, text);
+        }
     }
-    io::write_all(STDOUT_FILENO, text);
-    Output { at: 0 }
-}
 
-// What is on the page leaves.
-pub fn flush(page: &[u8], output: Output) -> Output
-    ensures { result.at ≡ 0 }
-{
-    let at = output.at;
-    if at <= page.len() {
-        io::write_all(STDOUT_FILENO, &page[..at]);
+    // What is on the page leaves.
+    pub fn flush(&mut self)
+        ensures { Left self.old self.new }
+    {
+        self.write();
+        self.at = 0;
     }
-    top()
-}
 
-// A number, as the 16 hexadecimal digits of its bits.
-pub fn put_number(page: &mut [u8], output: Output, x: f64) -> Output
-    ensures { Put page.old output.at (hex_of 16 (to_bits binary64 x)) page.new result.at }
-{
-    let mut text = [0u8; 16];
-    words::put_hex(&mut text, 0, float::bits_of(x));
-    put_text(page, output, &text)
-}
+    fn write(&self) {
+        if let Some(written) = self.bytes.get(..self.at) {
+            io::write_all(STDOUT_FILENO, written);
+        }
+    }
 
-// A whole number, in decimal.
-pub fn put_whole(page: &mut [u8], output: Output, n: u64) -> Output
-    ensures { PutWhole page.old output.at n page.new result.at }
-{
-    let mut digits = [0u8; 20];
-    let k = io::decimal(n, &mut digits);
-    put_text(page, output, &digits[..k])
-}
+    // A number, as the 16 hexadecimal digits of its bits.
+    pub fn put_number(&mut self, x: f64)
+        ensures { Put (hex_of 16 (to_bits binary64 x)) self.old self.new }
+    {
+        let mut text = [0; 16];
+        words::put_hex(&mut text, 0, float::bits_of(x));
+        self.put_text(&text);
+    }
 
-pub fn put_blank(page: &mut [u8], output: Output) -> Output
-    ensures { Put page.old output.at (32 ∷ []) page.new result.at }
-{
-    put_text(page, output, b" ")
-}
+    // A whole number, in decimal.
+    pub fn put_whole(&mut self, n: u64)
+        ensures { PutWhole n self.old self.new }
+    {
+        let mut digits = [0; 20];
+        let k = io::decimal(n, &mut digits);
+        self.put_text(&digits[..k]);
+    }
 
-pub fn put_line_end(page: &mut [u8], output: Output) -> Output
-    ensures { Put page.old output.at (10 ∷ []) page.new result.at }
-{
-    put_text(page, output, b"\n")
+    pub fn put_blank(&mut self)
+        ensures { Put (32 ∷ []) self.old self.new }
+    {
+        self.put_text(b" ");
+    }
+
+    pub fn put_line_end(&mut self)
+        ensures { Put (10 ∷ []) self.old self.new }
+    {
+        self.put_text(b"\n");
+    }
 }

@@ -1,7 +1,7 @@
--- `stream::output::put_number` meets its contract. Assumes nothing.
+-- `Page::put_number` meets its contract. Assumes nothing.
 use mathlib.Core.Path.{◌∙◌}
 use Rattle.words.proofs.Laws.{length_hex, placed_all}
-use Rattle.stream.proofs.output.put_number.Goals as goal
+use Rattle.stream.proofs.output.Page.put_number.Goals as goal
 
 pub returns : goal.returns
 returns c =

@@ -1,8 +1,0 @@
--- `stream::lines::put_refused` meets its contract. Assumes nothing.
-use Rattle.stream.specs.Pieces.{one}
-use Rattle.stream.proofs.Pieces.{puts_one}
-use Rattle.stream.proofs.lines.put_refused.Goals as goal
-
-pub returns : goal.returns
-returns c =
-    one c.put_text-said.ensures (one c.put_whole-put.ensures (puts_one c.put_line_end.ensures))
