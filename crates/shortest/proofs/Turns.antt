@@ -1,20 +1,19 @@
 -- The turns of the loops that find digits: what is left to do, and what has been done, make the whole. Assumes nothing.
 use mathlib.Core.Path.{◌≡◌, refl, sym, ap, ◌∙◌, subst}
 use mathlib.Core.Bool.{Bool, true, false, cond}
+use Rattle.std.proofs.Common.{None, Some}
+use Rattle.std.proofs.lemmas.Bool.Decides.{nat_tests}
 use Prim.Native.Nat.{ℕ, zero, suc, ◌+◌, ◌-◌, ◌*◌, ◌/◌, ◌%◌, ◌^◌, ◌<◌, ◌≤◌}
-use native.Mathlib.Nat.{mul_assoc, mul-one, one-mul, add-mul, pow-zero, pow-suc, pow-succ', mul-le-mul, mul-le-mul_left, mul-le-mul_right, one-le-pow, add-mul-div_right, div-eq_of_lt, add-mul-mod_self_right, mod-eq_of_lt, pow-le-pow_right}
+use native.Mathlib.Nat.{mul_assoc, one-mul, add-mul, pow-succ', mul-le-mul, mul-le-mul_left, mul-le-mul_right, one-le-pow, add-mul-div_right, div-eq_of_lt, add-mul-mod_self_right, mod-eq_of_lt, pow-le-pow_right}
 use native.Mathlib.Numerals.{add-one}
 use lib.Pow.{pow-add}
 use native.Mathlib.Omega.{arith}
-use borrow.Author.Tests.{leb-false, lt-ltb, le-ltb, eq-eqb, ne_eqb}
+use borrow.Author.Tests.{lt-ltb, le-ltb, eq-eqb, ne_eqb}
 use lib.Dec.{leb, ltb, lit≤, lit<}
 use Rattle.shortest.specs.Whole.{cap}
-use Rattle.shortest.specs.Digits.{Digits, Found, Is, raises, lowers, ending, shortest, find, between, quarters, digits_of}
+use Rattle.shortest.specs.Digits.{Digits, Found, Is, raises, lowers, ending, added, shortest, find, between, quarters, digits_of}
 
 -- ---- powers
-
-pub power_start : (a : ℕ) → a ≡ 10 ^ 0 * a
-power_start a = omega arith
 
 pub power_more : (b k s a : ℕ) → s ≡ b ^ k * a → b * s ≡ b ^ (k + 1) * a
 power_more b k s a e = rw (add-one k, pow-succ' b k, mul_assoc b (b ^ k) a, e)
@@ -72,8 +71,8 @@ lower_stop k odd r u s n h t e =
 
 -- ---- a digit
 
-pub cut_more : (r d s n : ℕ) → s ≤ r → r + d * s ≡ n → (r' : ℕ) → r' + s ≡ r → r' + (d + 1) * s ≡ n
-cut_more r d s n h e r' f =
+pub cut_more : (r d s n : ℕ) → r + d * s ≡ n → (r' : ℕ) → r' + s ≡ r → r' + (d + 1) * s ≡ n
+cut_more r d s n e r' f =
     let g : (d + 1) * s ≡ d * s + s = add-mul d 1 s ∙ ap (λ (x : ℕ). d * s + x) (one-mul s) in
     omega (arith, g)
 
@@ -83,44 +82,12 @@ cut_whole r d s n h e = sym (rw (← e, add-mul-div_right r d {z = s} (omega ari
 pub cut_rest : (r d s n : ℕ) → r < s → r + d * s ≡ n → r ≡ n % s
 cut_rest r d s n h e = sym (rw (← e, add-mul-mod_self_right r d s, mod-eq_of_lt h))
 
--- ---- the ending
+-- ---- a comparison as the code makes it
 
-module _ (low odd s r u : ℕ) where
-  pub ending_neither : leb (r + odd) (low * u) ≡ false → leb (s + odd) (r + 2 * u) ≡ false → 2 ≡ ending low odd s r u
-  unfolding ending
-  ending_neither b a = rw (b, a)
-
-  pub ending_above : leb (r + odd) (low * u) ≡ false → leb (s + odd) (r + 2 * u) ≡ true → 1 ≡ ending low odd s r u
-  unfolding ending
-  ending_above b a = rw (b, a)
-
-  pub ending_below : leb (r + odd) (low * u) ≡ true → leb (s + odd) (r + 2 * u) ≡ false → 0 ≡ ending low odd s r u
-  unfolding ending
-  ending_below b a = rw (b, a)
-
-  pub ending_up : leb (r + odd) (low * u) ≡ true → leb (s + odd) (r + 2 * u) ≡ true → leb s (2 * r) ≡ true → 1 ≡ ending low odd s r u
-  unfolding ending
-  ending_up b a n = rw (b, a, n)
-
-  pub ending_down : leb (r + odd) (low * u) ≡ true → leb (s + odd) (r + 2 * u) ≡ true → leb s (2 * r) ≡ false → 0 ≡ ending low odd s r u
-  unfolding ending
-  ending_down b a n = rw (b, a, n)
-
-  open_at : {b a n : Bool} → leb (r + odd) (low * u) ≡ b → leb (s + odd) (r + 2 * u) ≡ a → leb s (2 * r) ≡ n → 2 ≤ ending low odd s r u → r + 2 * u < s + odd
-  open_at {a = false} p q t h = leb-false _ _ q
-  open_at {b = true} {a = true} {n = true} p q t h = let e = ending_up p q t in let no : ⊥ = omega arith in absurd no
-  open_at {b = true} {a = true} {n = false} p q t h = let e = ending_down p q t in let no : ⊥ = omega arith in absurd no
-  open_at {b = false} {a = true} p q t h = let e = ending_above p q in let no : ⊥ = omega arith in absurd no
-
-  -- where the digits go on, the upper end is below one
-  pub ending_open : 2 ≤ ending low odd s r u → r + 2 * u < s + odd
-  ending_open h = open_at refl refl refl h
-
--- a comparison with one number alone
-pub alone : {t : Bool} (a p b c : ℕ) → t ≡ leb a (p * b + 0 * c) → t ≡ leb a (p * b)
+alone : {t : Bool} (a p b c : ℕ) → t ≡ leb a (p * b + 0 * c) → t ≡ leb a (p * b)
 alone a p b c e = e ∙ ap (leb a) (omega arith)
 
-pub bare : {t : Bool} (a p b c : ℕ) → t ≡ leb (a + 0) (p * b + 0 * c) → t ≡ leb a (p * b)
+bare : {t : Bool} (a p b c : ℕ) → t ≡ leb (a + 0) (p * b + 0 * c) → t ≡ leb a (p * b)
 bare a p b c e =
     let f : a + 0 ≡ a = omega arith in
     let g : p * b + 0 * c ≡ p * b = omega arith in
@@ -132,6 +99,37 @@ single a b c e =
     let g : 1 * b + 0 * c ≡ b = omega arith in
     rw (f, g) at e
 
+pub reached : {t : Bool} (odd s r u : ℕ) → t ≡ leb (s + odd) (1 * r + 2 * u) → t ≡ leb (s + odd) (r + 2 * u)
+reached odd s r u e = rw one-mul at e
+
+-- ---- the ending
+
+module _ (low odd s r u : ℕ) where
+  -- the three tests, as the code makes them
+  pub ended : {b a n : Bool} → b ≡ leb (r + odd) (low * u + 0 * u) → a ≡ leb (s + odd) (1 * r + 2 * u) → n ≡ leb (s + 0) (2 * r + 0 * r)
+      → added (ending low odd s r u) ≡ cond b (cond a (Some (cond n 1 0)) (Some 0)) (cond a (Some 1) None)
+  unfolding ending added
+  ended {b = true} {a = true} {n = true} eb ea en = rw (← alone (r + odd) low u u eb, ← reached odd s r u ea, ← bare s 2 r r en)
+  ended {b = true} {a = true} {n = false} eb ea en = rw (← alone (r + odd) low u u eb, ← reached odd s r u ea, ← bare s 2 r r en)
+  ended {b = true} {a = false} eb ea en = rw (← alone (r + odd) low u u eb, ← reached odd s r u ea)
+  ended {b = false} {a = true} eb ea en = rw (← alone (r + odd) low u u eb, ← reached odd s r u ea)
+  ended {b = false} {a = false} eb ea en = rw (← alone (r + odd) low u u eb, ← reached odd s r u ea)
+
+  -- where the digits go on, the upper end is below one
+  pub ending_open : None ≡ added (ending low odd s r u) → r + 2 * u < s + odd
+  unfolding ending added
+  ending_open h = grind (arith, nat_tests)
+
+-- what is to be added
+added_none : (e : ℕ) → None ≡ added e → 2 ≤ e
+unfolding added
+added_none e g = grind (arith, nat_tests)
+
+pub added_some : (e m : ℕ) → Some m ≡ added e → (m ≡ e) × (e < 2)
+unfolding added
+added_some e m g = grind (arith, nat_tests)
+
+-- a comparison with one number alone
 -- ---- a turn of the digits
 
 pub digits_small : (q d n : ℕ) → q + 1 ≤ 10 ^ n → d ≤ 9 → 10 * q + d + 1 ≤ 10 ^ (n + 1)
@@ -142,20 +140,25 @@ digits_fit q n h g =
     let most : 10 ^ n ≤ 10 ^ 17 = pow-le-pow_right (omega arith) g in
     omega arith
 
-module _ (n low odd s q r u r₁ u₁ d r₂ e : ℕ) (D : Digits) (h : n < 17) (er : r₁ ≡ 10 * r) (eu : u₁ ≡ 10 * u) (ed : d ≡ r₁ / s) (e₂ : r₂ ≡ r₁ % s)
-    (ee : e ≡ ending low odd s r₂ u₁) (whole : shortest (17 - n) low odd s q n r u ≡ D) where
+module _ (n low odd s q r u r₁ u₁ d : ℕ) (D : Digits) (h : n < 17) (er : r₁ ≡ 10 * r) (eu : u₁ ≡ 10 * u) (ed : d ≡ r₁ / s) (whole : shortest (17 - n) low odd s q n r u ≡ D) where
   turn : 17 - n ≡ suc (17 - (n + 1))
   turn = omega arith
 
-  opened : cond (ltb e 2) (record { number = 10 * q + d + e; count = suc n }) (shortest (17 - (n + 1)) low odd s (10 * q + d) (suc n) r₂ u₁) ≡ D
+  abbrev e : ℕ
+  e = ending low odd s (r₁ % s) u₁
+
+  opened : cond (ltb e 2) (record { number = 10 * q + d + e; count = suc n }) (shortest (17 - (n + 1)) low odd s (10 * q + d) (suc n) (r₁ % s) u₁) ≡ D
   unfolding shortest
-  opened = rw (ee, ed, e₂, er, eu) (rw turn at whole)
+  opened = rw (ed, er, eu) (rw turn at whole)
 
-  pub shortest_more : 2 ≤ e → shortest (17 - (n + 1)) low odd s (10 * q + d) (n + 1) r₂ u₁ ≡ D
-  shortest_more g = rw (le-ltb e 2 g, ← add-one n) at opened
+  pub shortest_more : None ≡ added e → shortest (17 - (n + 1)) low odd s (10 * q + d) (n + 1) (r₁ % s) u₁ ≡ D
+  shortest_more g = rw (le-ltb e 2 (added_none e g), ← add-one n) at opened
 
-  pub shortest_ends : e < 2 → (10 * q + d + e ≡ D.number) × (n + 1 ≡ D.count)
-  shortest_ends g = let ended = rw (lt-ltb e 2 g) at opened in (ap (λ (x : Digits). x.number) ended, add-one n ∙ ap (λ (x : Digits). x.count) ended)
+  pub shortest_ends : (m : ℕ) → Some m ≡ added e → (10 * q + d + m ≡ D.number) × (n + 1 ≡ D.count)
+  shortest_ends m g =
+      let some = added_some e m g in
+      let ended = rw (lt-ltb e 2 some.1, ← some.0) at opened in
+      (ap (λ (x : Digits). x.number) ended, add-one n ∙ ap (λ (x : Digits). x.count) ended)
 
 pub shortest_out : (n low odd s q r u : ℕ) (D : Digits) → n ≡ 17 → shortest (17 - n) low odd s q n r u ≡ D → (q ≡ D.number) × (n ≡ D.count)
 unfolding shortest
@@ -166,23 +169,10 @@ shortest_out n low odd s q r u D all e =
 
 -- ---- a factor again and again
 
-module _ (k left v : ℕ) (some : 0 < left) where
-  again : k ^ (left - 1) * (k * v) ≡ k ^ left * v
-  again =
-      let back : left ≡ suc (left - 1) = omega arith in
-      sym (ap (λ (x : ℕ). k ^ x * v) back ∙ rw (pow-suc k (left - 1), mul_assoc (k ^ (left - 1)) k v))
-
-  pub repeat_more : (n : ℕ) → k ^ left * v ≡ n → k ^ (left - 1) * (k * v) ≡ n
-  repeat_more n e = again ∙ e
-
-  pub repeat_fits : (c : ℕ) → 0 < k → k ^ left * v < c → k * v < c
-  repeat_fits c pos h =
-      let least : 1 * (k * v) ≤ k ^ (left - 1) * (k * v) = mul-le-mul_right (k * v) (one-le-pow (left - 1) k pos) in
-      omega (arith, again, least, one-mul (k * v))
-
-pub repeat_end : (k left v n : ℕ) → left ≡ 0 → k ^ left * v ≡ n → v ≡ n
-repeat_end k left v n none e =
-    rw (none, pow-zero k, one-mul v) at e
+pub power_fits : (k i n a v c : ℕ) → 0 < k → i < n → v ≡ k ^ i * a → k ^ n * a < c → k * v < c
+power_fits k i n a v c pos more e h =
+    let most : k ^ (i + 1) * a ≤ k ^ n * a = mul-le-mul_right a (pow-le-pow_right {n = k} pos {j = n} (omega arith)) in
+    omega (arith, most, power_more k i v a e)
 
 -- ---- powers of two
 
@@ -251,44 +241,21 @@ top_hundreds r u h g = topped r u (2 ^ 1026) (2 ^ 971) (2 ^ 1152) h g (lit< tt)
 
 -- ---- from the three loops to the digits
 
-module _ (low odd R S U s r u a b q n : ℕ) (ea : a ≡ raises 400 odd (R + 2 * U) S) (es : s ≡ 10 ^ a * S) (eb : b ≡ lowers 400 odd (R + 2 * U) s)
-    (er : r ≡ 10 ^ b * R) (eu : u ≡ 10 ^ b * U) where
-  digits_same : shortest 17 low odd s 0 0 r u ≡ shortest 17 low odd (10 ^ raises 400 odd (R + 2 * U) S * S) 0 0
-      (10 ^ lowers 400 odd (R + 2 * U) (10 ^ raises 400 odd (R + 2 * U) S * S) * R) (10 ^ lowers 400 odd (R + 2 * U) (10 ^ raises 400 odd (R + 2 * U) S * S) * U)
-  digits_same = rw (er, eu, eb, es, ea)
-
-  pub find_is : q ≡ (shortest 17 low odd s 0 0 r u).number → n ≡ (shortest 17 low odd s 0 0 r u).count → 1 ≤ n → n ≤ 17 → b ≤ 400 → Is (find low odd R S U) q n a b
-  unfolding find
-  find_is eq en some few near = record {
-    same_number = eq ∙ ap (λ (d : Digits). d.number) digits_same;
-    same_count = en ∙ ap (λ (d : Digits). d.count) digits_same;
-    same_raised = ea;
-    same_lowered = eb ∙ ap (λ (x : ℕ). lowers 400 odd (R + 2 * U) x) (es ∙ ap (λ (x : ℕ). 10 ^ x * S) ea);
-    some = some;
-    few = few;
-    near = near;
-  }
-
-pub between_is : (m p low r s u q n a b : ℕ) → r ≡ 2 ^ (p - 1075) * (4 * m) → s ≡ 2 ^ (1075 - p) * 4 → u ≡ 2 ^ (p - 1075) * 1
-    → Is (find low (m % 2) r s u) q n a b → Is (between m p low) q n a b
-unfolding between
-between_is m p low r s u q n a b er es eu i =
-    let one : u ≡ 2 ^ (p - 1075) = eu ∙ mul-one (2 ^ (p - 1075)) in
-    rw (er, es, one) at i
+pub find_is : (low odd r s u a b q n : ℕ) → a ≡ raises 400 odd (r + 2 * u) s → b ≡ lowers 400 odd (r + 2 * u) (10 ^ a * s)
+    → q ≡ (shortest 17 low odd (10 ^ a * s) 0 0 (10 ^ b * r) (10 ^ b * u)).number → n ≡ (shortest 17 low odd (10 ^ a * s) 0 0 (10 ^ b * r) (10 ^ b * u)).count
+    → 1 ≤ n → n ≤ 17 → b ≤ 400 → Is (find low odd r s u) q n a b
+unfolding find
+find_is low odd r s u a b q n ea eb eq en some few near = record {
+  same_number = rw (eb, ea) at eq;
+  same_count = rw (eb, ea) at en;
+  same_raised = ea;
+  same_lowered = rw ea at eb;
+  some = some;
+  few = few;
+  near = near;
+}
 
 -- ---- from the pattern
-
-pub quarters_some : (x t : ℕ) → 0 < t → 2 ≡ quarters x t
-unfolding quarters
-quarters_some x t h = rw (lt-ltb 0 t h)
-
-pub quarters_edge : (x t : ℕ) → t ≤ 0 → 1 < x → 1 ≡ quarters x t
-unfolding quarters
-quarters_edge x t h g = rw (le-ltb 0 t h, lt-ltb 1 x g)
-
-pub quarters_first : (x t : ℕ) → t ≤ 0 → x ≤ 1 → 2 ≡ quarters x t
-unfolding quarters
-quarters_first x t h g = rw (le-ltb 0 t h, le-ltb 1 x g)
 
 pub digits_none : (b : ℕ) → 2046 < b / 2 ^ 52 → between 0 1 2 ≡ digits_of b
 unfolding digits_of

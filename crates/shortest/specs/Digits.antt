@@ -2,7 +2,15 @@
 --
 -- A number is r / s. What lies between (r − low · u) / s and (r + 2 · u) / s is nearer to it than to any other f64; the two ends read back as it too where
 -- its mantissa is even, which `odd` tells: 0 there and 1 otherwise.
-use Rattle.std.specs.Prelude.{ℕ, zero, suc, ◌+◌, ◌-◌, ◌*◌, ◌/◌, ◌%◌, ◌^◌, ◌≤◌, ◌≡◌, cond, leb, ltb, eqb}
+use Rattle.std.specs.Prelude.{ℕ, zero, suc, ◌+◌, ◌-◌, ◌*◌, ◌/◌, ◌%◌, ◌^◌, ◌≤◌, ◌≡◌, cond, leb, ltb, eqb, Option, None, Some}
+
+-- what is told of a number, by these names
+pub record Parts : Type 0 where
+  pub r : ℕ
+  pub s : ℕ
+  pub u : ℕ
+  pub low : ℕ
+  pub odd : ℕ
 
 -- ---- where the first digit stands
 
@@ -25,6 +33,10 @@ ending low odd s r u =
     cond (leb (r + odd) (low * u))
     (cond (leb (s + odd) (r + 2 * u)) (cond (leb s (2 * r)) 1 0) 0)
     (cond (leb (s + odd) (r + 2 * u)) 1 2)
+
+-- what is to be added to the digits so far, where they are all
+unfoldable pub added : ℕ → Option ℕ
+added ending = cond (ltb ending 2) (Some ending) None
 
 pub record Digits : Type 0 where
   pub number : ℕ

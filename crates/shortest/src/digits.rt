@@ -1,135 +1,167 @@
-// The shortest decimal digits that read back as an f64, by Steele and White's method: the number is a
-// fraction r / s of whole numbers, and u / s measures how far its neighbours are.
-ghost use Rattle.std.specs.Prelude.{◌≡◌, ◌+◌, ◌-◌, ◌*◌, ◌/◌, ◌%◌, ◌^◌, ◌<◌, ◌≤◌, leb, length};
-ghost use Rattle.shortest.specs.Whole.{value, cap};
-ghost use Rattle.shortest.specs.Digits.{Is, raises, lowers, digits_of};
+// The shortest decimal digits that read back as an f64, by Steele and White's method.
+ghost use Rattle.std.specs.Prelude.{◌≡◌, ◌+◌, ◌-◌, ◌*◌, ◌/◌, ◌%◌, ◌^◌, ◌<◌, ◌≤◌};
+ghost use Rattle.shortest.specs.Whole.{cap};
+ghost use Rattle.shortest.specs.Digits.{Is, Parts, raises, lowers, added, digits_of};
 ghost use Rattle.shortest.specs.Digits.{ending as Digits·ending, shortest as Digits·shortest};
 ghost use Rattle.shortest.specs.Digits.{find as Digits·find, between as Digits·between, quarters as Digits·quarters};
 
-use crate::whole;
+use crate::whole::Whole;
+use std::marker::Model;
+
+// The number r / s, and u / s, a quarter of its distance to the next one above. Half of each of its
+// two distances reads back as it: two quarters above it and `low` quarters below; the ends do so too
+// unless `odd`, its mantissa's last bit, is 1.
+#[derive(Drop)]
+struct Fraction {
+    r: Whole,
+    s: Whole,
+    u: Whole,
+    low: u64,
+    odd: u64,
+}
+
+impl Model for Fraction {
+    ghost Value = { Parts };
+
+    ghost view = { λ a. record { r = a.r; s = a.s; u = a.u; low = a.low; odd = a.odd } };
+
+    ghost invariant = { λ a. (a.low ≤ 2) × (a.odd ≤ 1) × (0 < a.s) × (10 * a.s < cap) × (0 < a.u) };
+}
 
 // The digits as a whole number, and how many there are.
-#[derive(Drop)]
-pub(crate) struct Digits {
-    pub number: u64,
-    pub count: usize,
+#[derive(Clone, Copy)]
+struct Digits {
+    number: u64,
+    count: usize,
 }
 
-// Whether the upper end of what reads back is one or above.
-fn reached(s: &[u32], odd: u64, r: &[u32], u: &[u32]) -> bool
-    requires { (length s.now ≡ 36) × (length r.now ≡ 36) × (length u.now ≡ 36) × (odd ≤ 1) }
-    ensures { result ≡ leb (value s.now + odd) (value r.now + 2 * value u.now) }
-{
-    whole::at_most(s, odd, 1, r, 2, u)
-}
-
-// Takes s ten times until the upper end is below one, and tells how often.
-fn raise(r: &[u32], s: &mut [u32], u: &[u32], odd: u64) -> usize
-    requires s_len { (length s.old ≡ 36) × (length r.now ≡ 36) × (length u.now ≡ 36) × (odd ≤ 1) }
-    requires s_nonzero { (0 < value s.old) × (10 * value s.old < cap) × (100 * (value r.now + 2 * value u.now) < cap) }
-    ensures value { (result ≡ raises 400 odd (value r.now + 2 * value u.now) (value s.old)) × (value s.new ≡ 10 ^ result * value s.old) }
-    ensures s_bound { (10 * value s.new < cap) × (value r.now + 2 * value u.now < value s.new + odd) }
-{
-    let mut k: usize = 0;
-    while k < 400 {
-        if !reached(s, odd, r, u) {
-            return k;
-        }
-        whole::times(s, 10);
-        k += 1;
-    }
-    k
-}
-
-// Takes r and u ten times until the upper end is not below a tenth, and tells how often.
-fn lower(r: &mut [u32], s: &[u32], u: &mut [u32], odd: u64) -> usize
-    requires s_len { (length s.now ≡ 36) × (length r.old ≡ 36) × (length u.old ≡ 36) × (odd ≤ 1) }
-    requires u_nonzero { (0 < value u.old) × (10 * value s.now < cap) × (value r.old + 2 * value u.old < value s.now + odd) }
-    ensures value { result ≡ lowers 400 odd (value r.old + 2 * value u.old) (value s.now) }
-    ensures r_after { (value r.new ≡ 10 ^ result * value r.old) × (value u.new ≡ 10 ^ result * value u.old) }
-    ensures u_nonzero_2 { (0 < value u.new) × (value r.new + 2 * value u.new < value s.now + odd) × (result ≤ 400) }
-{
-    let mut k: usize = 0;
-    while k < 400 {
-        if whole::at_most(s, odd, 10, r, 20, u) {
-            return k;
-        }
-        whole::times(r, 10);
-        whole::times(u, 10);
-        k += 1;
-    }
-    k
-}
-
-// The whole part of r / s, and leaves the rest in r.
-fn cut(r: &mut [u32], s: &[u32]) -> u64
-    requires { (length s.now ≡ 36) × (length r.old ≡ 36) × (value r.old < 10 * value s.now) }
-    ensures { (result ≡ value r.old / value s.now) × (value r.new ≡ value r.old % value s.now) × (result ≤ 9) }
-{
-    let mut d: u64 = 0;
-    while d < 9 {
-        if !whole::at_most(s, 0, 1, r, 0, r) {
-            return d;
-        }
-        whole::take_away(r, s);
-        d += 1;
-    }
-    d
-}
-
-// Whether the digits so far are all: 0 as they stand, 1 one above, 2 not yet.
-fn ending(r: &[u32], s: &[u32], u: &[u32], low: u64, odd: u64) -> u64
-    requires { (length s.now ≡ 36) × (length r.now ≡ 36) × (length u.now ≡ 36) × (odd ≤ 1) × (low ≤ 2) }
-    ensures { (result ≡ Digits·ending low odd (value s.now) (value r.now) (value u.now)) × (result ≤ 2) }
-{
-    let above = reached(s, odd, r, u);
-    if !whole::at_most(r, odd, low, u, 0, u) {
-        if above {
-            return 1;
-        }
-        return 2;
-    }
-    if !above {
-        return 0;
-    }
-    if whole::at_most(s, 0, 2, r, 0, r) {
-        return 1;
-    }
-    0
-}
-
-// The shortest digits that read back, for r / s below one. No f64 needs more than 17.
-fn shortest(r: &mut [u32], s: &[u32], u: &mut [u32], low: u64, odd: u64) -> Digits
-    requires s_len { (length s.now ≡ 36) × (length r.old ≡ 36) × (length u.old ≡ 36) × (odd ≤ 1) × (low ≤ 2) }
-    requires u_nonzero { (0 < value u.old) × (10 * value s.now < cap) × (value r.old + 2 * value u.old < value s.now + odd) }
-    ensures number_value { result.number ≡ (Digits·shortest 17 low odd (value s.now) 0 0 (value r.old) (value u.old)).number }
-    ensures count_value { result.count ≡ (Digits·shortest 17 low odd (value s.now) 0 0 (value r.old) (value u.old)).count }
-    ensures le_count { (1 ≤ result.count) × (result.count ≤ 17) }
-{
-    let mut q: u64 = 0;
-    let mut n: usize = 0;
-    while n < 17 {
-        whole::times(r, 10);
-        whole::times(u, 10);
-        q = 10 * q + cut(r, s);
-        n += 1;
-        let e = ending(r, s, u, low, odd);
-        if e < 2 {
-            return Digits {
-                number: q + e,
-                count: n,
-            };
+impl Fraction {
+    // The number mantissa times 2^(power - 1075).
+    fn of(mantissa: u64, power: u64, low: u64) -> Self
+        requires { (mantissa < 2 ^ 53) × (1 ≤ power) × (power ≤ 2046) × (low ≤ 2) }
+        ensures { result
+            ≡ record { r = 2 ^ (power - 1075) * (4 * mantissa); s = 2 ^ (1075 - power) * 4; u = 2 ^ (power - 1075); low = low; odd = mantissa % 2 } }
+    {
+        let up = power.saturating_sub(1075);
+        let mut r = Whole::from(4 * mantissa);
+        let mut s = Whole::from(4);
+        let mut u = Whole::from(1);
+        r.shift(up);
+        u.shift(up);
+        s.shift(1075u64.saturating_sub(power));
+        Fraction {
+            r,
+            s,
+            u,
+            low,
+            odd: mantissa % 2,
         }
     }
-    Digits {
-        number: q,
-        count: n,
+
+    // Takes s ten times until the upper end is below one, and tells how often.
+    fn raise(&mut self) -> usize
+        requires { 100 * (self.old.r + 2 * self.old.u) < cap }
+        ensures value { result ≡ raises 400 self.old.odd (self.old.r + 2 * self.old.u) self.old.s }
+        ensures after { self.new ≡ record self.old { s = 10 ^ result * self.old.s } }
+        ensures below_one { self.new.r + 2 * self.new.u < self.new.s + self.new.odd }
+    {
+        for k in 0..400 {
+            if !self.s.at_most(self.odd, 1, &self.r, 2, &self.u) {
+                return k;
+            }
+            self.s.times(10);
+        }
+        400
+    }
+
+    // Takes r and u ten times until the upper end is not below a tenth, and tells how often.
+    fn lower(&mut self) -> usize
+        requires { self.old.r + 2 * self.old.u < self.old.s + self.old.odd }
+        ensures value { result ≡ lowers 400 self.old.odd (self.old.r + 2 * self.old.u) self.old.s }
+        ensures after { self.new ≡ record self.old { r = 10 ^ result * self.old.r; u = 10 ^ result * self.old.u } }
+        ensures below_one { self.new.r + 2 * self.new.u < self.new.s + self.new.odd }
+        ensures near { result ≤ 400 }
+    {
+        for k in 0..400 {
+            if self.s.at_most(self.odd, 10, &self.r, 20, &self.u) {
+                return k;
+            }
+            self.r.times(10);
+            self.u.times(10);
+        }
+        400
+    }
+
+    // The whole part of r / s, and leaves the rest in r.
+    fn cut(&mut self) -> u64
+        requires { self.old.r < 10 * self.old.s }
+        ensures value { (result ≡ self.old.r / self.old.s) × (result ≤ 9) }
+        ensures after { self.new ≡ record self.old { r = self.old.r % self.old.s } }
+    {
+        for d in 0..9 {
+            if !self.s.at_most(0, 1, &self.r, 0, &self.r) {
+                return d;
+            }
+            self.r.take_away(&self.s);
+        }
+        9
+    }
+
+    // What is to be added to the digits so far, where they are all: 0 as they stand, and 1 one above.
+    fn ending(&self) -> Option<u64>
+        ensures { result ≡ added (Digits·ending self.now.low self.now.odd self.now.s self.now.r self.now.u) }
+    {
+        let below = self.r.at_most(self.odd, self.low, &self.u, 0, &self.u);
+        let above = self.s.at_most(self.odd, 1, &self.r, 2, &self.u);
+        match (below, above) {
+            (false, false) => None,
+            (false, true) => Some(1),
+            (true, false) => Some(0),
+            (true, true) => Some(u64::from(self.s.at_most(0, 2, &self.r, 0, &self.r))),
+        }
+    }
+
+    // The shortest digits that read back, for r / s below one. No f64 needs more than 17.
+    fn shortest(&mut self) -> Digits
+        requires { self.old.r + 2 * self.old.u < self.old.s + self.old.odd }
+        ensures number { result.number ≡ (Digits·shortest 17 self.old.low self.old.odd self.old.s 0 0 self.old.r self.old.u).number }
+        ensures count { result.count ≡ (Digits·shortest 17 self.old.low self.old.odd self.old.s 0 0 self.old.r self.old.u).count }
+        ensures few { (1 ≤ result.count) × (result.count ≤ 17) }
+    {
+        let mut number = 0;
+        for n in 0..17 {
+            self.r.times(10);
+            self.u.times(10);
+            number = 10 * number + self.cut();
+            if let Some(more) = self.ending() {
+                return Digits {
+                    number: number + more,
+                    count: n + 1,
+                };
+            }
+        }
+        Digits { number, count: 17 }
+    }
+
+    fn find(mut self) -> Found
+        requires { 100 * (self.r + 2 * self.u) < cap }
+        ensures { Is (Digits·find self.low self.odd self.r self.s self.u) result.number result.count result.raised result.lowered }
+    {
+        let raised = self.raise();
+        let lowered = self.lower();
+        let Digits { number, count } = self.shortest();
+        Found {
+            number,
+            count,
+            raised,
+            lowered,
+        }
     }
 }
 
 // The digits of a number as a whole number, how many there are, and how often the number was divided by
 // ten, or taken ten times, to stand right behind the point.
-#[derive(Drop)]
+#[derive(Clone, Copy, Debug, PartialEq, Eq)]
 pub struct Found {
     pub number: u64,
     pub count: usize,
@@ -137,46 +169,12 @@ pub struct Found {
     pub lowered: usize,
 }
 
-fn find(r: &mut [u32], s: &mut [u32], u: &mut [u32], low: u64, odd: u64) -> Found
-    requires s_len { (length s.old ≡ 36) × (length r.old ≡ 36) × (length u.old ≡ 36) × (odd ≤ 1) × (low ≤ 2) }
-    requires s_nonzero { (0 < value s.old) × (0 < value u.old) × (10 * value s.old < cap) × (100 * (value r.old + 2 * value u.old) < cap) }
-    ensures { Is (Digits·find low odd (value r.old) (value s.old) (value u.old)) result.number result.count result.raised result.lowered }
-{
-    let raised = raise(r, s, u, odd);
-    let lowered = lower(r, s, u, odd);
-    let d = shortest(r, s, u, low, odd);
-    let number = d.number;
-    let count = d.count;
-    Found {
-        number,
-        count,
-        raised,
-        lowered,
-    }
-}
-
-// x - y, and 0 where y is above x.
-fn past(x: usize, y: usize) -> usize
-    ensures { result ≡ x - y }
-{
-    if x < y {
-        return 0;
-    }
-    x - y
-}
-
 // How many quarters of the distance above lie between a number and the lower end of what reads back:
 // at a power of two the number below is nearer, but for the smallest of them that is normal.
-fn quarters(field: usize, fraction: u64) -> u64
+fn quarters(field: u64, fraction: u64) -> u64
     ensures { (result ≡ Digits·quarters field fraction) × (result ≤ 2) }
 {
-    if fraction > 0 {
-        return 2;
-    }
-    if field > 1 {
-        return 1;
-    }
-    2
+    if fraction == 0 && field > 1 { 1 } else { 2 }
 }
 
 // The digits of the finite number above zero whose pattern is `bits`; those of 0 for another pattern.
@@ -185,32 +183,21 @@ pub fn digits_of(bits: u64) -> Found
 {
     let field = bits / 0x10_0000_0000_0000;
     let fraction = bits % 0x10_0000_0000_0000;
-    if field > 2046 {
-        return between(0, 1, 2);
+    match field {
+        0 => between(fraction, 1, 2),
+        1..=2046 => between(
+            0x10_0000_0000_0000 + fraction,
+            field,
+            quarters(field, fraction),
+        ),
+        _ => between(0, 1, 2),
     }
-    let power = field as usize;
-    if power == 0 {
-        return between(fraction, 1, 2);
-    }
-    between(
-        0x10_0000_0000_0000 + fraction,
-        power,
-        quarters(power, fraction),
-    )
 }
 
 // The digits of mantissa times 2^(power - 1075).
-fn between(mantissa: u64, power: usize, low: u64) -> Found
+fn between(mantissa: u64, power: u64, low: u64) -> Found
     requires { (mantissa < 2 ^ 53) × (1 ≤ power) × (power ≤ 2046) × (low ≤ 2) }
     ensures { Is (Digits·between mantissa power low) result.number result.count result.raised result.lowered }
 {
-    let up = past(power, 1075);
-    let down = past(1075, power);
-    let mut r = whole::of(4 * mantissa);
-    let mut s = whole::of(4);
-    let mut u = whole::of(1);
-    whole::shift(&mut r, up);
-    whole::shift(&mut u, up);
-    whole::shift(&mut s, down);
-    find(&mut r, &mut s, &mut u, low, mantissa % 2)
+    Fraction::of(mantissa, power, low).find()
 }

@@ -1,8 +1,0 @@
--- `shortest::whole::of` meets its contract. Assumes nothing.
-use native.Mathlib.Omega.{arith}
-use Rattle.shortest.specs.Whole.{value}
-use Rattle.shortest.proofs.whole.of.Goals as goal
-
-pub returns : goal.returns
-unfolding value
-returns c = omega arith
