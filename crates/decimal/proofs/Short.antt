@@ -8,6 +8,7 @@ use lib.Dec.{leb, ltb, eqb}
 use lib.ListN.{length, length-append}
 use Rattle.shortest.specs.Digits.{Digits, Found, raises, lowers, ending, shortest, find, between, digits_of}
 use Rattle.decimal.specs.Text.{sign, behind, pointed, width, exponent, scientific, positional, laid, infinite, unsigned, text}
+use Rattle.std.proofs.lemmas.Grind.{common_steps}
 use Rattle.decimal.proofs.Puts.{by_test, length_digits}
 
 -- ---- there are 1 to 17 digits, and no exponent has more than three
@@ -52,29 +53,32 @@ digits_few bits =
 
 -- ---- the parts
 
-abbrev Within : ℕ → List ℕ → Type 0
+abbrev pub Within : ℕ → List ℕ → Type 0
 Within most text = length text ≤ most
 
 behind_short : (number places : ℕ) → Within (places + 1) (behind number places)
 unfolding behind
 behind_short number places = by_test (Within (places + 1)) (eqb places 0) (λ e. omega arith) (λ e. omega (arith, length_digits places number))
 
-pointed_short : (number whole places : ℕ) → Within (whole + places + 1) (pointed number whole places)
+pub pointed_short : (number whole places : ℕ) → Within (whole + places + 1) (pointed number whole places)
 unfolding pointed
 pointed_short number whole places = simp (length-append, length_digits) (omega (arith, behind_short number places))
 
-sign_short : (minus : Bool) → Within 1 (sign minus)
+pub sign_short : (minus : Bool) → Within 1 (sign minus)
 unfolding sign
 sign_short true = omega arith
 sign_short false = omega arith
 
-width_short : (e : ℕ) → width e ≤ 3
+pub width_short : (e : ℕ) → width e ≤ 3
 unfolding width
 width_short e = by_test (λ (w : ℕ). w ≤ 3) (ltb e 10) (λ f. omega arith) (λ f. by_test (λ (w : ℕ). w ≤ 3) (ltb e 100) (λ g. omega arith) (λ g. omega arith))
 
 exponent_short : (minus : Bool) (e : ℕ) → Within 5 (exponent minus e)
 unfolding exponent
 exponent_short minus e = simp (length-append, length_digits) (omega (arith, sign_short minus, width_short e))
+
+-- how long the parts are, for those who put one behind another
+pub ruleset lengths = (common_steps, length_digits, sign_short, width_short, pointed_short)
 
 module _ (number count : ℕ) (some : 1 ≤ count) (few : count ≤ 17) where
   scientific_short : (minus : Bool) (e : ℕ) → Within 23 (scientific number count minus e)
