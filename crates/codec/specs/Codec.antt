@@ -51,9 +51,9 @@ sr1_numbers t = t.radius ∷ t.eta ∷ t.factor ∷ t.tol_grad ∷ []
 -- ---- phases: 0 ready, 1 awaiting a cost, with what it was promised on, 2 awaiting derivatives
 
 abbrev pub phase_of : Turn → Phase
-phase_of turn = cond (eqb turn.0 0) Ready (cond (eqb turn.0 1) (AwaitingCost turn.1 turn.2) AwaitingDerivatives)
+phase_of turn = cond (eqb turn.number 0) Ready (cond (eqb turn.number 1) (AwaitingCost turn.promise turn.norm) AwaitingDerivatives)
 
 abbrev pub turn_of : Phase → Turn
-turn_of Ready = (0, nought, nought)
-turn_of (AwaitingCost promise norm) = (1, promise, norm)
-turn_of AwaitingDerivatives = (2, nought, nought)
+turn_of Ready = record { number = 0; promise = nought; norm = nought }
+turn_of (AwaitingCost promise norm) = record { number = 1; promise = promise; norm = norm }
+turn_of AwaitingDerivatives = record { number = 2; promise = nought; norm = nought }
