@@ -6,28 +6,17 @@ use Prim.Native.Nat.{ℕ, ◌≤◌}
 use native.Mathlib.Omega.{arith}
 use lib.Dec.{ltb, eqb}
 use lib.ListN.{length}
-use lib.Ieee.{Float}
 use borrow.Author.Tests.{ltb-false, eqb-true, eqb-false, ne_eqb, le-ltb}
 use Rattle.vectors.proofs.Sizes.{square_small}
 use Rattle.script.specs.declared.Kind.{Kind}
 use Rattle.script.specs.declared.Kind.TheVariants.{TrustRegion, Sr1}
-use Rattle.script.specs.declared.call.Call.{Call}
-use Rattle.script.specs.declared.call.Call.TheVariants.{Odd}
 use Rattle.script.specs.Places.{word}
-use Rattle.script.specs.Call.{cost_words, derivative_words, call_words, wants, is_whole, call_of, gradient_left, hessian_left, Decoded}
+use Rattle.script.specs.Call.{cost_words, derivative_words, call_words, wants, is_whole}
 
 -- by its first word
 pub wants_at : (k : Kind) (n : ℕ) (words : List ℕ) (first : ℕ) → (length words ≡ 0 → ⊥) → n ≤ 64 → word words 0 ≡ first → call_words k n first ≡ wants k n words
 unfolding wants
 wants_at k n words first some small e = rw (ne_eqb _ _ some, le-ltb _ _ small, e)
-
--- no call has such a first word
-pub words_none : (k : Kind) (n first : ℕ) → (first ≡ 1 → ⊥) → (first ≡ 2 → ⊥) → (first ≡ 3 → ⊥) → (first ≡ 4 → ⊥) → (first ≡ 5 → ⊥) → 0 ≡ call_words k n first
-words_none k n first a b c d e = rw (ne_eqb _ _ a, ne_eqb _ _ b, ne_eqb _ _ c, ne_eqb _ _ d, ne_eqb _ _ e)
-
-pub call_none : (k : Kind) (n : ℕ) (words : List ℕ) → let first = word words 0 in
-    (first ≡ 1 → ⊥) → (first ≡ 2 → ⊥) → (first ≡ 3 → ⊥) → (first ≡ 4 → ⊥) → (first ≡ 5 → ⊥) → Odd ≡ call_of k n words
-call_none k n words a b c d e = rw (ne_eqb _ _ a, ne_eqb _ _ b, ne_eqb _ _ c, ne_eqb _ _ d, ne_eqb _ _ e)
 
 -- a whole call is one of a session's n
 small_by : (a b : Bool) (len w : ℕ) → (a ≡ true → len ≡ 0) → (a ≡ false → len ≡ 0 → ⊥) → cond a 1 (cond b 0 w) ≡ len → b ≡ false
@@ -67,12 +56,3 @@ wants_small k n words =
     let first = word words 0 in
     few_by (eqb (length words) 0) (ltb 64 n) (eqb first 1) (eqb first 2) (eqb first 3) (eqb first 4) (eqb first 5) (cost_words k n) (derivative_words k n)
     (λ e. cost_small k n (ltb-false 64 n e)) (λ e. derivatives_small k n (ltb-false 64 n e))
-
--- the two ends of decoding
-module _ (k : Kind) (n : ℕ) (words : List ℕ) {gradient hessian : List Float} where
-  pub decoded_odd : is_whole k n words ≡ false → Decoded k n words Odd gradient gradient hessian hessian
-  decoded_odd e = record { says = rw e; leaves_gradient = rw e; leaves_hessian = rw e }
-
-  pub decoded_whole : {gradient' hessian' : List Float} (r : Call) → is_whole k n words ≡ true → r ≡ call_of k n words → gradient' ≡ gradient_left k n words gradient → hessian' ≡ hessian_left k n words hessian
-      → Decoded k n words r gradient gradient' hessian hessian'
-  decoded_whole r e says g h = record { says = rw e says; leaves_gradient = rw e g; leaves_hessian = rw e h }

@@ -1,6 +1,7 @@
 -- A start or a call that was told in words is read back as it was: the format loses nothing. Assumes nothing.
 use mathlib.Core.Path.{◌≡◌, refl, sym, ◌∙◌, ap}
 use mathlib.Core.Bool.{Bool, true, false, cond, not}
+use Rattle.std.specs.Prelude.{Option, Some, None}
 use mathlib.Core.List.{List, [], ◌∷◌, ◌++◌, append-nil}
 use Prim.Native.Nat.{ℕ, suc, ◌+◌, ◌*◌, ◌≤◌}
 use native.Mathlib.Omega.{arith}
@@ -24,7 +25,7 @@ use Rattle.script.specs.declared.Kind.TheVariants as kind
 use Rattle.script.specs.declared.call.Call as declared
 use Rattle.script.specs.declared.call.Call.TheVariants as code
 use Rattle.script.specs.Places.{word, number, numbers}
-use Rattle.script.specs.Call.{Call, trust_region, sr1, change, count, odd, call_words, wants, is_whole, Decoded, asks_trust_region, asks_sr1, asks, asked}
+use Rattle.script.specs.Call.{Call, trust_region, sr1, change, count, odd, call_words, wants, is_whole, Decoded, turn_at, asks_trust_region, asks_sr1, asks, asked}
 use Rattle.script.specs.declared.start.Start.TheVariants as start
 use Rattle.script.specs.Start as Start
 use Rattle.script.specs.Start.{size_of, begins, head, further, known, whole, start_of}
@@ -152,7 +153,7 @@ module _ (t : trustregion.Settings) (cost : Float) (n : ℕ) (point gradient hes
   trust_region_whole : Start.is_whole told_trust_region ≡ true
   trust_region_whole = whole_start told_trust_region (omega arith) trust_region_begins (omega arith) (omega arith) (omega (arith, lists_long f))
 
-  trust_region_opens : start_of told_trust_region ≡ start.TrustRegion t cost
+  trust_region_opens : start_of told_trust_region ≡ Some (start.TrustRegion t cost)
   unfolding start_of
   trust_region_opens = rw (trust_region_whole, back cost held, back t.radius h.radius, back t.max_radius h.max_radius, back t.eta h.eta, back t.choice.epsilon h.epsilon)
 
@@ -171,7 +172,7 @@ module _ (t : sr1_session.Settings) (cost : Float) (n : ℕ) (point gradient hes
   sr1_whole : Start.is_whole told_sr1 ≡ true
   sr1_whole = whole_start told_sr1 (omega arith) sr1_begins (omega arith) (omega arith) (omega (arith, lists_long f))
 
-  sr1_opens : start_of told_sr1 ≡ start.Sr1 t cost
+  sr1_opens : start_of told_sr1 ≡ Some (start.Sr1 t cost)
   unfolding start_of
   sr1_opens =
       rw (sr1_whole, back cost held, back t.radius h.radius, back t.eta h.eta, back t.factor h.factor, back t.tol_grad h.tol_grad, back t.choice.epsilon h.epsilon)
@@ -183,11 +184,12 @@ module _ (t : sr1_session.Settings) (cost : Float) (n : ℕ) (point gradient hes
 
 -- by the tests: w whole, b1 to b5 the number of the call, p a phase that the kind does not have
 module _ (a : ℕ) (F radius cost : Float) (q : Phase) where
-  abbrev by_tests : (b1 b2 b3 b4 p b5 : Bool) → declared.Call
-  by_tests b1 b2 b3 b4 p b5 = cond b1 (code.Propose a) (cond b2 (code.Cost a F) (cond b3 (code.Derivatives a) (cond b4 (cond p code.Odd (code.Change radius cost q)) (cond b5 (code.Count a) code.Odd))))
+  abbrev by_tests : (b1 b2 b3 b4 p b5 : Bool) → Option declared.Call
+  by_tests b1 b2 b3 b4 p b5 =
+      cond b1 (Some (code.Propose a)) (cond b2 (Some (code.Cost a F)) (cond b3 (Some (code.Derivatives a)) (cond b4 (cond p None (Some (code.Change radius cost q))) (cond b5 (Some (code.Count a)) None))))
 
   trust_region_tests : (w b1 b2 b3 b4 p b5 : Bool) (g h G H : List Float)
-      → asks_trust_region (cond w (by_tests b1 b2 b3 b4 p b5) code.Odd) (cond w (cond b2 G (cond b3 g G)) G) (cond w (cond b3 h H) H) ≡ cond w (asks_trust_region (by_tests b1 b2 b3 b4 p b5) g h) odd
+      → asks_trust_region (cond w (by_tests b1 b2 b3 b4 p b5) None) (cond w (cond b2 G (cond b3 g G)) G) (cond w (cond b3 h H) H) ≡ cond w (asks_trust_region (by_tests b1 b2 b3 b4 p b5) g h) odd
   trust_region_tests false b1 b2 b3 b4 p b5 g h G H = refl
   trust_region_tests true true b2 b3 b4 p b5 g h G H = refl
   trust_region_tests true false true b3 b4 p b5 g h G H = refl
@@ -198,7 +200,7 @@ module _ (a : ℕ) (F radius cost : Float) (q : Phase) where
   trust_region_tests true false false false false p false g h G H = refl
 
   sr1_tests : (w b1 b2 b3 b4 p b5 : Bool) (g z G : List Float)
-      → asks_sr1 (cond w (by_tests b1 b2 b3 b4 p b5) code.Odd) (cond w (cond b2 g (cond b3 z G)) G) ≡ cond w (asks_sr1 (by_tests b1 b2 b3 b4 p b5) g) odd
+      → asks_sr1 (cond w (by_tests b1 b2 b3 b4 p b5) None) (cond w (cond b2 g (cond b3 z G)) G) ≡ cond w (asks_sr1 (by_tests b1 b2 b3 b4 p b5) g) odd
   sr1_tests false b1 b2 b3 b4 p b5 g z G = refl
   sr1_tests true true b2 b3 b4 p b5 g z G = refl
   sr1_tests true false true b3 b4 p b5 g z G = refl
@@ -209,24 +211,24 @@ module _ (a : ℕ) (F radius cost : Float) (q : Phase) where
   sr1_tests true false false false false p false g z G = refl
 
 -- whatever the words
-pub decoded_asked : (k : Kind) (n : ℕ) (words : List ℕ) {r : declared.Call} {G G' H H' : List Float} → Decoded k n words r G G' H H' → length G ≡ n → length H ≡ n * n → asks k r G' H' ≡ asked k n words
+pub decoded_asked : (k : Kind) (n : ℕ) (words : List ℕ) {r : Option declared.Call} {G G' H H' : List Float} → Decoded k n words r G G' H H' → length G ≡ n → length H ≡ n * n → asks k r G' H' ≡ asked k n words
 unfolding asked
 decoded_asked kind.TrustRegion n words {r} {G} {G'} {H} {H'} d g h =
     rw (d.says, d.leaves_gradient, d.leaves_hessian, g, h)
-    (trust_region_tests (word words 1) (number words 2) (number words 1) (number words 2) (phase_of (word words 3, number words 4, number words 5))
+    (trust_region_tests (word words 1) (number words 2) (number words 1) (number words 2) (phase_of (turn_at words))
     (is_whole kind.TrustRegion n words) (eqb (word words 0) 1) (eqb (word words 0) 2) (eqb (word words 0) 3) (eqb (word words 0) 4) (ltb 2 (word words 3)) (eqb (word words 0) 5)
     (numbers (drop 2 words) n) (numbers (drop (2 + n) words) (n * n)) G H)
 decoded_asked kind.Sr1 n words {r} {G} {G'} {H} {H'} d g h =
     rw (d.says, d.leaves_gradient, g)
-    (sr1_tests (word words 1) (number words 2) (number words 1) (number words 2) (phase_of (word words 3, number words 4, number words 5))
+    (sr1_tests (word words 1) (number words 2) (number words 1) (number words 2) (phase_of (turn_at words))
     (is_whole kind.Sr1 n words) (eqb (word words 0) 1) (eqb (word words 0) 2) (eqb (word words 0) 3) (eqb (word words 0) 4) (ltb 1 (word words 3)) (eqb (word words 0) 5)
     (numbers (drop 3 words) n) (numbers (drop 2 words) n) G)
 
-pub call_decoded : (k : Kind) (n : ℕ) (c : Call) {r : declared.Call} {G G' H H' : List Float} → Fits k n c → Decoded k n (call_encoded c) r G G' H H' → length G ≡ n → length H ≡ n * n → asks k r G' H' ≡ c
+pub call_decoded : (k : Kind) (n : ℕ) (c : Call) {r : Option declared.Call} {G G' H H' : List Float} → Fits k n c → Decoded k n (call_encoded c) r G G' H H' → length G ≡ n → length H ≡ n * n → asks k r G' H' ≡ c
 call_decoded k n c f d g h = decoded_asked k n (call_encoded c) d g h ∙ call_back k n c f
 
-pub start_decoded : (words : List ℕ) {s r : start.the_data} {n : ℕ} {point gradient hessian p p' g g' h h' : List Float} → Tells words s n point gradient hessian
-    → Start.Decoded words r p p' g g' h h' → length p ≡ n → length g ≡ n → length h ≡ n * n → (r ≡ s) × (p' ≡ point) × (g' ≡ gradient) × (h' ≡ hessian)
+pub start_decoded : (words : List ℕ) {s : start.the_data} {r : Option start.the_data} {n : ℕ} {point gradient hessian p p' g g' h h' : List Float} → Tells words s n point gradient hessian
+    → Start.Decoded words r p p' g g' h h' → length p ≡ n → length g ≡ n → length h ≡ n * n → (r ≡ Some s) × (p' ≡ point) × (g' ≡ gradient) × (h' ≡ hessian)
 start_decoded words {p = p} {p'} {g} {g'} {h} {h'} t d a b c =
     let l : Start.Lists words p p' g g' h h' = rw t.whole at d.leaves in (
       d.says ∙ t.start_back,

@@ -1,4 +1,3 @@
-pub mod Standing
 pub mod Starts
 pub mod Calls
 pub mod Encoded

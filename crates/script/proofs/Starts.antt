@@ -2,6 +2,7 @@
 use mathlib.Core.Path.{◌≡◌, refl}
 use mathlib.Core.Bool.{Bool, true, false, cond, not, ◌&&◌}
 use mathlib.Core.List.{List}
+use Rattle.std.specs.Prelude.{Some, None}
 use Prim.Native.Nat.{ℕ, ◌+◌, ◌≤◌, ◌<◌}
 use native.Mathlib.Omega.{arith}
 use lib.Dec.{ltb, leb}
@@ -13,7 +14,6 @@ use Rattle.vectors.proofs.Sizes.{both, size_true, square_small}
 use Rattle.script.specs.declared.Kind.{Kind}
 use Rattle.script.specs.declared.Kind.TheVariants.{TrustRegion, Sr1}
 use Rattle.script.specs.declared.start.Start.{Start}
-use Rattle.script.specs.declared.start.Start.TheVariants.{Odd}
 use Rattle.script.specs.Places.{word}
 use Rattle.script.specs.Start.{kind_of, size_of, tells_more, by_kind, begins, limit_at, head, further, known, whole, wants, opening, is_whole, start_of, Lists, Decoded}
 
@@ -83,11 +83,11 @@ wants_small words =
 
 -- the two ends of decoding
 module _ (words : List ℕ) {point gradient hessian : List Float} where
-  pub decoded_odd : is_whole words ≡ false → Decoded words Odd point point gradient gradient hessian hessian
+  pub decoded_odd : is_whole words ≡ false → Decoded words None point point gradient gradient hessian hessian
   unfolding start_of
   decoded_odd e = record { says = rw e; leaves = rw e (record { point_kept = refl; gradient_kept = refl; hessian_kept = refl }) }
 
   pub decoded_whole : {point' gradient' hessian' : List Float} (r : Start) → is_whole words ≡ true → r ≡ opening words (kind_of words) → Lists words point point' gradient gradient' hessian hessian'
-      → Decoded words r point point' gradient gradient' hessian hessian'
+      → Decoded words (Some r) point point' gradient gradient' hessian hessian'
   unfolding start_of
-  decoded_whole r e f l = record { says = rw e f; leaves = rw e l }
+  decoded_whole r e f l = record { says = rw (e, f); leaves = rw e l }

@@ -1,5 +1,5 @@
 -- The words in which a start and a call are told: the format of Start.antt and Call.antt, the other way. Definitions only.
-use Rattle.std.specs.Prelude.{◌≡◌, true, List, [], ◌∷◌, ◌++◌, map, ℕ, ◌+◌, ◌*◌, ◌≤◌, T, length, drop, Float}
+use Rattle.std.specs.Prelude.{◌≡◌, true, Some, List, [], ◌∷◌, ◌++◌, map, ℕ, ◌+◌, ◌*◌, ◌≤◌, T, length, drop, Float}
 use Rattle.std.specs.Float.{binary64}
 use Rattle.std.specs.Float.Ieee.{fits, to_bits}
 use Rattle.vectors.specs.Vector.{at}
@@ -40,7 +40,7 @@ sr1_encoded (Sr1.answer t F G) = 2 ∷ t ∷ word_of F ∷ bits G
 
 -- "phase a b"
 abbrev pub turn_encoded : Turn → List ℕ
-turn_encoded turn = turn.0 ∷ word_of turn.1 ∷ word_of turn.2 ∷ []
+turn_encoded turn = turn.number ∷ word_of turn.promise ∷ word_of turn.norm ∷ []
 
 -- "change `4 radius cost phase a b`", "count `5 count`"; what is odd has no words
 abbrev pub call_encoded : Call → List ℕ
@@ -136,7 +136,7 @@ pub record Sr1Held (t : sr1_session.Settings) : Type 0 where
 -- the words tell this start and these lists
 pub record Tells (words : List ℕ) (s : declared.Start) (n : ℕ) (point gradient hessian : List Float) : Type 0 where
   pub whole : is_whole words ≡ true
-  pub start_back : start_of words ≡ s
+  pub start_back : start_of words ≡ Some s
   pub point_back : numbers (drop (cost_at words + 1) words) n ≡ point
   pub gradient_back : numbers (drop (cost_at words + 1 + size_of words) words) n ≡ gradient
   pub hessian_back : numbers (drop (cost_at words + 1 + 2 * size_of words) words) (n * n) ≡ hessian

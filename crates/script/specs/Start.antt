@@ -1,6 +1,6 @@
 -- The words of a start: "kind, n; kernel, radius, max_radius, eta, epsilon, limit" or "kernel, radius, eta, factor, tol_grad, epsilon, limit"; "in kinds 3 and 4 alone: k, then
 -- k further settings"; "cost; point, gradient, Hessian". Definitions only.
-use Rattle.std.specs.Prelude.{◌≡◌, Bool, true, false, not, ◌&&◌, List, [], ◌∷◌, ℕ, ◌+◌, ◌*◌, eqb, ltb, length, drop, Float}
+use Rattle.std.specs.Prelude.{◌≡◌, Bool, true, false, not, ◌&&◌, Option, Some, None, List, [], ◌∷◌, ℕ, ◌+◌, ◌*◌, eqb, ltb, length, drop, Float}
 use Rattle.std.proofs.Math.Bool.{cond}
 use Rattle.std.proofs.Math.Dec.{leb}
 use Rattle.vectors.specs.Refusal.{size}
@@ -10,6 +10,7 @@ use Rattle.trustregion.specs.declared.settings.Settings as trustregion
 use Rattle.sr1.specs.declared.settings.Settings as sr1
 use Rattle.script.specs.declared.Kind.{Kind}
 use Rattle.script.specs.declared.Kind.TheVariants as kind
+use Rattle.script.specs.declared.Place.{Place}
 use Rattle.script.specs.declared.start.Start.{Start}
 use Rattle.script.specs.declared.start.Start.TheVariants as start
 use Rattle.script.specs.Places.{word, number, numbers}
@@ -97,9 +98,9 @@ module _ (words : List ℕ) where
   abbrev pub is_whole : Bool
   is_whole = eqb wants (length words)
 
-  unfoldable pub start_of : Start
+  unfoldable pub start_of : Option Start
   unfolding wants trust_region sr1_settings
-  start_of = cond is_whole (opening (kind_of words)) start.Odd
+  start_of = cond is_whole (Some (opening (kind_of words))) None
 
 -- point, gradient and Hessian stand at the end, in this order; a list is filled with as many numbers as it has
 pub record Lists (words : List ℕ) (point point' gradient gradient' hessian hessian' : List Float) : Type 0 where
@@ -118,6 +119,12 @@ lists_by true words point point' gradient gradient' hessian hessian' = Lists wor
 lists_by false words point point' gradient gradient' hessian hessian' = Left point point' gradient gradient' hessian hessian'
 
 -- the lists are filled where there is a start, and else left
-pub record Decoded (words : List ℕ) (r : Start) (point point' gradient gradient' hessian hessian' : List Float) : Type 0 where
+pub record Decoded (words : List ℕ) (r : Option Start) (point point' gradient gradient' hessian hessian' : List Float) : Type 0 where
   pub says : r ≡ start_of words
   pub leaves : lists_by (is_whole words) words point point' gradient gradient' hessian hessian'
+
+-- a place refers to the lists that it did
+pub record SamePlace (place place' : Place) : Type 0 where
+  pub point : place'.point.ghost_name ≡ place.point.ghost_name
+  pub gradient : place'.gradient.ghost_name ≡ place.gradient.ghost_name
+  pub hessian : place'.hessian.ghost_name ≡ place.hessian.ghost_name

@@ -8,7 +8,6 @@ use codec::Turn;
 use offer::state::Phase;
 
 // The lists that come with an answer stand beside it. A change puts a radius, a cost and a phase into the session, a count this count.
-// Words that make no call are odd.
 #[derive(Clone, Copy)]
 pub enum Call {
     Propose(usize),
@@ -16,14 +15,14 @@ pub enum Call {
     Derivatives(usize),
     Change(f64, f64, Phase),
     Count(u64),
-    Odd,
 }
 
-// How many words there are in all, as far as those that are there tell it; 0 where the first may not stand there.
+// How many words are wanted in all, as far as those that are there tell it; 0, so that no more are read, where the first may not stand there.
+#[tactic(auto, unfolding(crate::specs::Call::wants))]
 pub fn wanted(kind: Kind, n: usize, words: &[u64]) -> usize
     ensures { result ≡ Definition.wants kind n words.now }
 {
-    if words.len() == 0 {
+    if words.is_empty() {
         return 1;
     }
     if 64 < n {
@@ -61,34 +60,35 @@ fn derivative_words(kind: Kind, n: usize) -> usize
     }
 }
 
-// The gradient and the Hessian that come with an answer are left in the lists; the others leave them as they are.
+// The gradient and the Hessian that come with an answer are left in the lists; the others leave them as they are. Words that make no call
+// are none.
 pub fn decode(
     kind: Kind,
     n: usize,
     words: &[u64],
     new_gradient: &mut [f64],
     new_hessian: &mut [f64],
-) -> Call
+) -> Option<Call>
     ensures { Decoded kind n words.now result new_gradient.old new_gradient.new new_hessian.old new_hessian.new }
 {
     if wanted(kind, n, words) != words.len() {
-        return Call::Odd;
+        return None;
     }
     let told_n = places::word(words, 1) as usize;
     match places::word(words, 0) {
-        1 => Call::Propose(told_n),
+        1 => Some(Call::Propose(told_n)),
         2 => {
             answer(kind, words, new_gradient);
-            Call::Cost(told_n, places::number(words, 2))
+            Some(Call::Cost(told_n, places::number(words, 2)))
         }
         3 => {
             places::fill(places::behind(words, 2), new_gradient);
             places::fill(places::behind(words, 2 + n), new_hessian);
-            Call::Derivatives(told_n)
+            Some(Call::Derivatives(told_n))
         }
         4 => change(kind, words),
-        5 => Call::Count(places::word(words, 1)),
-        _ => Call::Odd,
+        5 => Some(Call::Count(places::word(words, 1))),
+        _ => None,
     }
 }
 
@@ -96,26 +96,26 @@ pub fn decode(
 fn answer(kind: Kind, words: &[u64], new_gradient: &mut [f64])
     ensures { new_gradient.new ≡ Definition.with_cost kind words.now new_gradient.old }
 {
-    match kind {
-        Kind::TrustRegion => {}
-        Kind::Sr1 => places::fill(places::behind(words, 3), new_gradient),
+    if kind == Kind::Sr1 {
+        places::fill(places::behind(words, 3), new_gradient);
     }
 }
 
 // 4 radius cost phase a b
-fn change(kind: Kind, words: &[u64]) -> Call
+fn change(kind: Kind, words: &[u64]) -> Option<Call>
     ensures { result ≡ Definition.changes kind words.now }
 {
-    let phase = places::word(words, 3);
-    if last_phase(kind) < phase {
-        return Call::Odd;
+    let turn = Turn {
+        number: places::word(words, 3),
+        promise: places::number(words, 4),
+        norm: places::number(words, 5),
+    };
+    if last_phase(kind) < turn.number {
+        return None;
     }
-    let turn = Turn(phase, places::number(words, 4), places::number(words, 5));
-    Call::Change(
-        places::number(words, 1),
-        places::number(words, 2),
-        codec::phase_of(turn),
-    )
+    let radius = places::number(words, 1);
+    let cost = places::number(words, 2);
+    Some(Call::Change(radius, cost, Phase::from(turn)))
 }
 
 // SR1TrustRegion awaits no derivatives.

@@ -7,8 +7,16 @@ mod places;
 pub mod start;
 
 // What a session is; its calls have their words by it.
-#[derive(Clone, Copy)]
+#[derive(Clone, Copy, Debug, PartialEq, Eq)]
 pub enum Kind {
     TrustRegion,
     Sr1,
+}
+
+// Where a fit stands: a point, and the gradient and the Hessian there.
+#[derive(Drop)]
+pub struct Place<'a> {
+    pub point: &'a mut [f64],
+    pub gradient: &'a mut [f64],
+    pub hessian: &'a mut [f64],
 }

@@ -6,10 +6,7 @@ ghost use Rattle.script.specs.Places.{numbers};
 pub(crate) fn word(words: &[u64], i: usize) -> u64
     ensures { result ≡ Places.word words.now i }
 {
-    if i < words.len() {
-        return words[i];
-    }
-    0
+    words.get(i).copied().unwrap_or(0)
 }
 
 // The same as a number.
@@ -23,20 +20,14 @@ pub(crate) fn number(words: &[u64], i: usize) -> f64
 pub(crate) fn behind(words: &[u64], count: usize) -> &[u64]
     ensures { result.now ≡ drop count words.now }
 {
-    if count <= words.len() {
-        return &words[count..];
-    }
-    let end = words.len();
-    &words[end..]
+    words.get(count..).unwrap_or(&[])
 }
 
 // Fills a list with the first words, as numbers.
 pub(crate) fn fill(words: &[u64], out: &mut [f64])
     ensures { out.new ≡ numbers words.now (length out.old) }
 {
-    let mut i = 0;
-    while i < out.len() {
-        out[i] = number(words, i);
-        i += 1;
+    for (i, x) in out.iter_mut().enumerate() {
+        *x = number(words, i);
     }
 }

@@ -2,30 +2,25 @@
 // TrustRegion, 2 and 4 SR1TrustRegion. 3 and 4 alone have further settings: a word tells how many, and those that are missing have their defaults.
 ghost use Rattle.std.specs.Prelude.{◌≡◌, ◌≤◌};
 ghost use Rattle.script.specs.Start as Definition;
-ghost use Rattle.script.specs.Start.{Lists, Decoded};
+ghost use Rattle.script.specs.Start.{Lists, Decoded, SamePlace};
 
-use crate::{Kind, places};
+use crate::{Kind, Place, places};
 use codec::Wholes;
 
-// What a start begins a session with: settings and a cost. Words that make no start are odd.
+// What a start begins a session with: settings and a cost.
 #[derive(Clone, Copy)]
 pub enum Start {
     TrustRegion(trustregion::settings::Settings, f64),
     Sr1(sr1::settings::Settings, f64),
-    Odd,
 }
 
 pub fn kind(words: &[u64]) -> Kind
     ensures { result ≡ Definition.kind_of words.now }
 {
-    let number = places::word(words, 0);
-    if number == 1 {
-        return Kind::TrustRegion;
+    match places::word(words, 0) {
+        1 | 3 => Kind::TrustRegion,
+        _ => Kind::Sr1,
     }
-    if number == 3 {
-        return Kind::TrustRegion;
-    }
-    Kind::Sr1
 }
 
 pub fn size(words: &[u64]) -> usize
@@ -41,7 +36,9 @@ pub fn tells_more(words: &[u64]) -> bool
     2 < places::word(words, 0)
 }
 
-// How many words there are in all, as far as those that are there tell it; 0 where one of them may not stand there.
+// How many words are wanted in all, as far as those that are there tell it; 0, so that no more are read, where one of them may not stand
+// there.
+#[tactic(auto, unfolding(crate::specs::Start::wants))]
 pub fn wanted(words: &[u64]) -> usize
     ensures { result ≡ Definition.wants words.now }
 {
@@ -59,11 +56,10 @@ pub fn wanted(words: &[u64]) -> usize
     if known(words) < more {
         return 0;
     }
-    let n = size(words);
-    whole(head, more, n)
+    in_all(head, more, size(words))
 }
 
-fn whole(head: usize, more: u64, n: usize) -> usize
+fn in_all(head: usize, more: u64, n: usize) -> usize
     requires { (head ≤ 10) × (more ≤ 3) × (n ≤ 64) }
     ensures { result ≡ Definition.whole head more n }
 {
@@ -76,13 +72,7 @@ fn begins(words: &[u64]) -> bool
     ensures { result ≡ Definition.begins words.now }
 {
     let number = places::word(words, 0);
-    if number < 1 {
-        return false;
-    }
-    if 4 < number {
-        return false;
-    }
-    vectors::refusal::size(size(words))
+    1 <= number && number <= 4 && vectors::refusal::size(size(words))
 }
 
 // Where the limit stands: behind kind, n, kernel and the numbers.
@@ -101,9 +91,10 @@ fn head(words: &[u64]) -> usize
 {
     let limit = limit_at(words);
     if tells_more(words) {
-        return limit + 2;
+        limit + 2
+    } else {
+        limit + 1
     }
-    limit + 1
 }
 
 // How many further settings are told.
@@ -111,10 +102,10 @@ fn further(words: &[u64]) -> u64
     ensures { result ≡ Definition.further words.now }
 {
     if tells_more(words) {
-        let place = limit_at(words) + 1;
-        return places::word(words, place);
+        places::word(words, limit_at(words) + 1)
+    } else {
+        0
     }
-    0
 }
 
 // How many the kind knows.
@@ -133,68 +124,27 @@ fn setting(words: &[u64], place: usize, missing: u64) -> u64
     ensures { result ≡ Definition.setting words.now place missing }
 {
     if (place as u64) < further(words) {
-        let at = head(words) + place;
-        return places::word(words, at);
+        places::word(words, head(words) + place)
+    } else {
+        missing
     }
-    missing
 }
 
+#[tactic(auto, unfolding(crate::specs::Start::wholes))]
 fn wholes(words: &[u64]) -> Wholes
     ensures { result ≡ Definition.wholes words.now }
 {
-    let told = codec::by_default(places::word(words, 2), places::word(words, limit_at(words)));
+    let told = Wholes::by_default(places::word(words, 2), places::word(words, limit_at(words)));
     Wholes {
-        kernel: told.kernel,
-        limit: told.limit,
         allowance: setting(words, 0, told.allowance),
         dogleg: setting(words, 1, told.dogleg),
         edition: setting(words, 2, told.edition),
-    }
-}
-
-// Point, gradient and Hessian stand at the end, in this order; each list is filled as far as it goes.
-pub fn decode(words: &[u64], point: &mut [f64], gradient: &mut [f64], hessian: &mut [f64]) -> Start
-    ensures { Decoded words.now result point.old point.new gradient.old gradient.new hessian.old hessian.new }
-{
-    if wanted(words) != words.len() {
-        return Start::Odd;
-    }
-    lists(words, point, gradient, hessian);
-    opening(words)
-}
-
-// Where the cost stands, behind the further settings.
-fn cost_at(words: &[u64]) -> usize
-    requires { Definition.further words.now ≤ 3 }
-    ensures { (result ≡ Definition.cost_at words.now) × (result ≤ 13) }
-{
-    head(words) + further(words) as usize
-}
-
-fn lists(words: &[u64], point: &mut [f64], gradient: &mut [f64], hessian: &mut [f64])
-    requires { (Definition.further words.now ≤ 3) × (Definition.size_of words.now ≤ 64) }
-    ensures { Lists words.now point.old point.new gradient.old gradient.new hessian.old hessian.new }
-{
-    let n = size(words);
-    let at = cost_at(words) + 1;
-    places::fill(places::behind(words, at), point);
-    places::fill(places::behind(words, at + n), gradient);
-    places::fill(places::behind(words, at + 2 * n), hessian);
-}
-
-// What stands before the lists.
-fn opening(words: &[u64]) -> Start
-    requires { Definition.further words.now ≤ 3 }
-    ensures { result ≡ Definition.opening words.now (Definition.kind_of words.now) }
-{
-    let cost = places::number(words, cost_at(words));
-    match kind(words) {
-        Kind::TrustRegion => Start::TrustRegion(trust_region(words), cost),
-        Kind::Sr1 => Start::Sr1(sr1_settings(words), cost),
+        ..told
     }
 }
 
 // Epsilon is the last number.
+#[tactic(auto, unfolding(crate::specs::Start::trust_region))]
 fn trust_region(words: &[u64]) -> trustregion::settings::Settings
     ensures { result ≡ Definition.trust_region words.now }
 {
@@ -203,9 +153,10 @@ fn trust_region(words: &[u64]) -> trustregion::settings::Settings
         places::number(words, 4),
         places::number(words, 5),
     ];
-    codec::trust_region(wholes(words), places::number(words, 6), &numbers)
+    wholes(words).trust_region(places::number(words, 6), &numbers)
 }
 
+#[tactic(auto, unfolding(crate::specs::Start::sr1_settings))]
 fn sr1_settings(words: &[u64]) -> sr1::settings::Settings
     ensures { result ≡ Definition.sr1_settings words.now }
 {
@@ -215,5 +166,58 @@ fn sr1_settings(words: &[u64]) -> sr1::settings::Settings
         places::number(words, 5),
         places::number(words, 6),
     ];
-    codec::sr1(wholes(words), places::number(words, 7), &numbers)
+    wholes(words).sr1(places::number(words, 7), &numbers)
+}
+
+// Words that make a start: no more further settings are told than there are, and n is a session's.
+#[derive(Clone, Copy)]
+struct Whole<'a> {
+    words: &'a [u64],
+    ghost few: { Definition.further words.now ≤ 3 },
+    ghost small: { Definition.size_of words.now ≤ 64 },
+}
+
+impl Whole<'_> {
+    // Where the cost stands, behind the further settings.
+    fn cost_at(&self) -> usize
+        ensures { (result ≡ Definition.cost_at self.now.words.now) × (result ≤ 13) }
+    {
+        head(self.words) + further(self.words) as usize
+    }
+
+    // Point, gradient and Hessian stand at the end, in this order; each list is filled as far as it goes.
+    fn fill(&self, place: &mut Place<'_>)
+        ensures same { SamePlace place.old place.new }
+        ensures fills { Lists self.now.words.now place.old.point.now place.new.point.now place.old.gradient.now place.new.gradient.now place.old.hessian.now place.new.hessian.now }
+    {
+        let n = size(self.words);
+        let at = self.cost_at() + 1;
+        places::fill(places::behind(self.words, at), place.point);
+        places::fill(places::behind(self.words, at + n), place.gradient);
+        places::fill(places::behind(self.words, at + 2 * n), place.hessian);
+    }
+
+    // What stands before the lists.
+    fn opening(&self) -> Start
+        ensures { result ≡ Definition.opening self.now.words.now (Definition.kind_of self.now.words.now) }
+    {
+        let cost = places::number(self.words, self.cost_at());
+        match kind(self.words) {
+            Kind::TrustRegion => Start::TrustRegion(trust_region(self.words), cost),
+            Kind::Sr1 => Start::Sr1(sr1_settings(self.words), cost),
+        }
+    }
+}
+
+// The start and its lists; none where the words make no start, and then the lists stay.
+pub fn decode(words: &[u64], place: &mut Place<'_>) -> Option<Start>
+    ensures same { SamePlace place.old place.new }
+    ensures decoded { Decoded words.now result place.old.point.now place.new.point.now place.old.gradient.now place.new.gradient.now place.old.hessian.now place.new.hessian.now }
+{
+    if wanted(words) != words.len() {
+        return None;
+    }
+    let whole = Whole { words };
+    whole.fill(place);
+    Some(whole.opening())
 }

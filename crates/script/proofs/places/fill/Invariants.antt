@@ -1,4 +1,3 @@
-use Prim.Native.Nat.{◌-◌}
 use lib.ListN.{length}
 use Rattle.vectors.proofs.Slots.{Writing}
 use Rattle.script.specs.Places.{number}
@@ -6,6 +5,3 @@ use Rattle.script.proofs.places.fill.Given as goal
 
 abbrev pub invariant-loop-i : goal.invariant-loop-i
 invariant-loop-i l = Writing l.initial.out (length l.initial.out) 0 (number l.words) l.out l.i
-
-abbrev pub decreases-loop-i : goal.decreases-loop-i
-decreases-loop-i l = length l.initial.out - l.i
