@@ -1,26 +1,26 @@
 -- Laws of a kernel's choice, and of the sessions' door. Assumes nothing.
 use mathlib.Core.Path.{◌≡◌, refl, sym, ◌∙◌}
-use mathlib.Core.Bool.{Bool, true, false, cond}
+use mathlib.Core.Bool.{Bool, true, false, cond, ◌&&◌}
 use mathlib.Core.List.{List, [], ◌∷◌}
 use Prim.Native.Nat.{ℕ, ◌*◌}
 use lib.Dec.{eqb}
 use lib.ListN.{length}
 use lib.Ieee.{Float}
-use borrow.Author.Tests.{eq-eqb, ne_eqb}
-use Rattle.std.specs.Prelude.{Result, Err}
-use Rattle.vectors.specs.Refusal.{checked, all_hold, size, sized, room}
-use Rattle.kernels.specs.Kernel.{Proper, Laid}
+use borrow.Author.Tests.{eq-eqb}
+use Rattle.std.specs.Prelude.{Err}
+use Rattle.vectors.specs.Refusal.{all_hold, size, sized, room}
+use Rattle.kernels.specs.Kernel.{Kernel, Proper, positive, Lent, Laid, Took, called}
 use Rattle.kernels.specs.CauchyPoint.{cauchy_point}
 use Rattle.kernels.specs.Dogleg.{dogleg}
 use Rattle.kernels.specs.Textbook.{textbook_dogleg}
 use Rattle.kernels.specs.Steihaug.{steihaug}
-use Rattle.kernels.specs.Choice.{known, ranges, in_range, kernel, door}
+use Rattle.kernels.specs.Choice.{known, ranges, in_range, asked, kernel, kernel_of, door}
 use Rattle.vectors.specs.declared.refusal.Refusal.TheVariants.{Size, Setting}
-use Rattle.kernels.specs.declared.kernel.Stepped.{Stepped}
-use Rattle.vectors.specs.declared.refusal.Refusal.{Refusal}
 use Rattle.kernels.specs.declared.choice.Choice.{Choice}
+use Rattle.kernels.specs.declared.choice.Kernel.{Kernel as Named}
+use Rattle.kernels.specs.declared.choice.Kernel.TheVariants as named
 use Rattle.vectors.proofs.Sizes.{each_holds, size_test}
-use Rattle.kernels.proofs.Kernels.{Lent, was_wrong}
+use Rattle.kernels.proofs.Kernels.{took_setting}
 use Rattle.kernels.proofs.CauchyPoints.{cauchy_proper}
 use Rattle.kernels.proofs.Doglegs.{dogleg_proper}
 use Rattle.kernels.proofs.Textbooks.{textbook_proper}
@@ -36,11 +36,33 @@ kernel_proper c n radius g H = pick (eqb c.kernel 1) (eqb c.kernel 2) (eqb c.dog
   pick false true false = textbook_proper n radius g H
   pick false false d = steihaug_proper c.epsilon c.limit n radius g H
 
+pub by_name_proper : (k : Named) (n : ℕ) (radius : Float) (g H : List Float) → Proper n (kernel_of k n radius g H)
+by_name_proper named.CauchyPoint = cauchy_proper
+by_name_proper named.Dogleg = dogleg_proper
+by_name_proper named.Textbook = textbook_proper
+by_name_proper (named.Steihaug epsilon limit) = steihaug_proper epsilon limit
+
 -- ---- a choice in range names a kernel, and a dogleg
 
 pub in_range_known : (c : Choice) → in_range c ≡ true → known c ≡ true
 unfolding in_range
 in_range_known c e = (each_holds (ranges c) e).0
+
+-- a choice that names none asks for too much of itself
+pub unknown_asked : (c : Choice) → known c ≡ false → asked c ≡ false
+unfolding asked in_range
+unknown_asked c e = pick (eqb c.kernel 3) where
+  pick : (b : Bool) → cond b (all_hold (ranges c)) (known c) ≡ false
+  pick true = rw e
+  pick false = e
+
+-- so a direct caller's is refused by 2
+pub took_unknown : (c : Choice) (k : Kernel) (n : ℕ) (radius : Float) (g H step w : List Float) → Lent n (length H) (length g) (length step) (length w) → known c ≡ false
+    → Took (called (asked c) k n radius g H step w) (Err Setting) step step w w
+took_unknown c k n radius g H step w l e = took_setting (asked c) k n radius g H step w l (pick (positive radius)) where
+  pick : (b : Bool) → (b && asked c) ≡ false
+  pick true = unknown_asked c e
+  pick false = refl
 
 -- ---- the door
 
@@ -57,40 +79,10 @@ module _ (c : Choice) (n : ℕ) (radius : Float) (g H w : List Float) where
   abbrev sizes : Bool
   sizes = all_hold (size n ∷ sized (n * n) H ∷ sized n g ∷ eqb n n ∷ sized (room n) w ∷ [])
 
-  module _ (e : Refusal) (t : Bool) where
-    pub shut_size : t ≡ sizes → Err e ≡ checked Size t → Laid (door c n radius g H w) (Err e) w w
-    unfolding door
-    shut_size a b =
-        let wrong = was_wrong Size e t b in
-        rw (wrong.1, sym (no_step n (length H) (length g) (length w)) ∙ sym a ∙ wrong.0) (record { says = refl; lays = refl })
+  pub shut_size : sizes ≡ false → Laid (door c n radius g H w) (Err Size) w w
+  unfolding door
+  shut_size e = rw (sym (no_step n (length H) (length g) (length w)) ∙ e) (record { says = refl; lays = refl })
 
-    pub shut_kernel : sizes ≡ true → t ≡ known c → Err e ≡ checked Setting t → Laid (door c n radius g H w) (Err e) w w
-    unfolding door
-    shut_kernel s a b =
-        let wrong = was_wrong Setting e t b in
-        rw (wrong.1, sym (no_step n (length H) (length g) (length w)) ∙ s, sym a ∙ wrong.0) (record { says = refl; lays = refl })
-
--- ---- which kernel a number names, and what it laid
-
-module _ (c : Choice) (n : ℕ) (radius : Float) (g H : List Float) (r : Result Stepped Refusal) (w w' : List Float) where
-  abbrev Chosen : Type 0
-  Chosen = Laid (kernel c n radius g H) r w w'
-
-  pub first : c.kernel ≡ 1 → Laid (cauchy_point n radius g H) r w w' → Chosen
-  unfolding kernel
-  first a h = rw (eq-eqb c.kernel 1 a) h
-
-  pub second : (c.kernel ≡ 1 → ⊥) → c.kernel ≡ 2 → c.dogleg ≡ 1 → Laid (dogleg n radius g H) r w w' → Chosen
-  unfolding kernel
-  second a b d h = rw (ne_eqb c.kernel 1 a, eq-eqb c.kernel 2 b, eq-eqb c.dogleg 1 d) h
-
-  pub second_anew : (c.kernel ≡ 1 → ⊥) → c.kernel ≡ 2 → (c.dogleg ≡ 1 → ⊥) → Laid (textbook_dogleg n radius g H) r w w' → Chosen
-  unfolding kernel
-  second_anew a b d h = rw (ne_eqb c.kernel 1 a, eq-eqb c.kernel 2 b, ne_eqb c.dogleg 1 d) h
-
-  pub third : (c.kernel ≡ 1 → ⊥) → (c.kernel ≡ 2 → ⊥) → Laid (steihaug c.epsilon c.limit n radius g H) r w w' → Chosen
-  unfolding kernel
-  third a b h = rw (ne_eqb c.kernel 1 a, ne_eqb c.kernel 2 b) h
-
-  pub through : {s : ℕ} → Lent n (length H) (length g) s (length w) → known c ≡ true → Chosen → Laid (door c n radius g H w) r w w'
-  through l k h = rw (opened c n radius g H w l k) h
+  pub shut_kernel : sizes ≡ true → known c ≡ false → Laid (door c n radius g H w) (Err Setting) w w
+  unfolding door
+  shut_kernel e k = rw (sym (no_step n (length H) (length g) (length w)) ∙ e, k) (record { says = refl; lays = refl })

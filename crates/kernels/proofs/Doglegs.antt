@@ -9,13 +9,13 @@ use Rattle.std.specs.Prelude.{Result, Err}
 use Rattle.float.specs.Numbers.{◌⊕◌, ◌⊖◌, ◌⊗◌, ◌⊘◌, square}
 use Rattle.float.specs.Constants.{nought, one, two}
 use Rattle.root.specs.Root.{root}
-use Rattle.vectors.specs.Vector.{dot, norm, weighted, plus, minus, scale, zeros}
+use Rattle.vectors.specs.Vector.{dot, norm, weighted, plus, minus, scale}
 use Rattle.vectors.specs.Slots.{slot, Puts}
 use Rattle.kernels.specs.Workspace.{each}
 use Rattle.vectors.specs.Refusal.{Answer, refused, given, then}
-use Rattle.kernels.specs.Kernel.{Made, made, handed_out, Proper, Laid}
+use Rattle.kernels.specs.Kernel.{Made, made, handed_out, Proper, Reached}
 use Rattle.kernels.specs.Inverse.{Rows, found, column_by, column, columns, eliminated, inverse_times, entry, pivot_bound, no_pivot, pivot_row, swapped, divided, cleared, start}
-use Rattle.kernels.specs.Dogleg.{candidates, keep, tau, bent, measured, outside, towards, unconstrained, dogleg_step, newton, between, dogleg, newton_in, Measures_in}
+use Rattle.kernels.specs.Dogleg.{candidates, keep, tau, bent, measured, outside, towards, unconstrained, dogleg_step, newton, between, dogleg, Measures_in}
 use Rattle.vectors.specs.declared.refusal.Refusal.TheVariants.{Pivot}
 use Rattle.kernels.specs.declared.dogleg.Measures.{Measures}
 use Rattle.kernels.specs.declared.kernel.Stepped.{Stepped}
@@ -24,7 +24,7 @@ use Rattle.kernels.specs.declared.workspace.Op.TheVariants.{Times, PlusTimes, Mi
 use Rattle.vectors.proofs.Vectors.{length_plus, length_scale}
 use Rattle.kernels.proofs.Ops.{each_minus, each_times, each_plus_times}
 use Rattle.kernels.proofs.Rows.{found_none, found_rows}
-use Rattle.kernels.proofs.Kernels.{Late, then_late, then_proper, handed_proper, laid_same}
+use Rattle.kernels.proofs.Kernels.{Late, then_late, then_proper, handed_proper, reached_same, reached_none}
 
 -- ---- the answers that it may give
 
@@ -77,18 +77,16 @@ module _ (step : ℕ → Float → (pb pu : List Float) → List Float) (n : ℕ
       (then_proper n (λ R. handed (pb R)) (eliminated n H) (eliminated_late n H)
       (λ R. handed_proper n (made 0 (step n radius (pb R) (unconstrained n g H))) (long (pb R) (unconstrained n g H) (length_scale n (inverse_times n R g) (neg one)))))
 
-  -- `lay`, where the code has pb, or f says that a pivot was refused
-  module _ (f : Bool) (pb w : List Float) (e : newton_in f pb ≡ newton n g H) where
-    pub between_none : (len : ℕ) (w' : List Float) → f ≡ false → len ≡ length w → w' ≡ zeros len → Laid (between step n radius g H) (Err Pivot) w w'
-    unfolding between newton_in
-    between_none len w' h l z = rw (← e, h) (record { says = refl; lays = z ∙ ap zeros l })
+  -- `lay`, where the inverse is refused, and where the code has pb
+  pub between_none : (r : Refusal) (w w' : List Float) → refused r ≡ newton n g H → Reached (between step n radius g H) (Err r) w w'
+  unfolding between
+  between_none r w w' e = reached_none (then handed (newton n g H)) r w w' (ap (then handed) e)
 
-    pub between_laid : (w₁ w₂ : List Float) (r : Result Stepped Refusal) → Proper n (between step n radius g H) → f ≡ true → slot w₁ n 0 ≡ step n radius pb (unconstrained n g H) → length w₁ ≡ length w
-        → Laid (handed_out (made 0 (slot w₁ n 0))) r w₁ w₂ → Laid (between step n radius g H) r w w₂
-    unfolding between newton_in
-    between_laid w₁ w₂ r proper h a l p =
-        let made_of : handed_out (made 0 (slot w₁ n 0)) ≡ between step n radius g H = rw (← e, h) (ap (λ (v : List Float). handed_out (made 0 v)) a) in
-        laid_same n (handed_out (made 0 (slot w₁ n 0))) (between step n radius g H) r w₁ w w₂ proper made_of l p
+  pub between_made : (pb w w₁ w₂ : List Float) (r : Result Stepped Refusal) → given pb ≡ newton n g H → slot w₁ n 0 ≡ step n radius pb (unconstrained n g H) → length w₁ ≡ length w
+      → Reached (handed_out (made 0 (slot w₁ n 0))) r w₁ w₂ → Reached (between step n radius g H) r w w₂
+  unfolding between
+  between_made pb w w₁ w₂ r e a l p =
+      reached_same (handed_out (made 0 (slot w₁ n 0))) (then handed (newton n g H)) r w₁ w w₂ (ap (λ (v : List Float). handed_out (made 0 v)) a ∙ ap (then handed) e) l p
 
 pub dogleg_proper : (n : ℕ) (radius : Float) (g H : List Float) → Proper n (dogleg n radius g H)
 unfolding dogleg
@@ -112,13 +110,13 @@ module _ (n : ℕ) (tau : Float) (w w' : List Float) where
 
 -- Newton's point, where the elimination left R and said f
 module _ (n : ℕ) (g H : List Float) (f : Bool) (R : Rows) (e : found f R ≡ eliminated n H) where
-  pub no_newton : (v : List Float) → f ≡ false → newton_in false v ≡ newton n g H
-  unfolding newton newton_in
-  no_newton v h = rw (← found_none f R (eliminated n H) e h)
+  pub no_newton : f ≡ false → refused Pivot ≡ newton n g H
+  unfolding newton
+  no_newton h = rw (← found_none f R (eliminated n H) e h)
 
   pub newtons : (w w₁ w₂ : List Float) → f ≡ true → Puts w n 0 (inverse_times n R g) w₁ → Puts w₁ n 0 (each n (Times (neg one)) (slot w₁ n 0) (slot w₁ n 0)) w₂
-      → newton_in true (slot w₂ n 0) ≡ newton n g H
-  unfolding newton newton_in
+      → given (slot w₂ n 0) ≡ newton n g H
+  unfolding newton
   newtons w w₁ w₂ h p q =
       let turned : slot w₂ n 0 ≡ scale n (inverse_times n R g) (neg one) = q 0 ∙ each_times n (slot w₁ n 0) (slot w₁ n 0) (neg one) ∙ rw (p 0) in
       rw (← found_rows f R (eliminated n H) e h, turned)
@@ -147,13 +145,13 @@ module _ (n : ℕ) (radius x : Float) (g H w : List Float) (e : x ≡ norm (slot
   unfolding dogleg_step outside unconstrained
   outsides curvature t w₁ w₂ w₃ m far h p q et b = rw (← e, far) (b ∙ rw (et, q.measure radius tau, q.pu_stays, q.across, p 0, p 1, h))
 
--- `lay`, where the code has pb
-module _ (n : ℕ) (radius : Float) (g H : List Float) (f : Bool) (pb w : List Float) (e : newton_in f pb ≡ newton n g H) where
-  pub dogleg_none : (len : ℕ) (w' : List Float) → f ≡ false → len ≡ length w → w' ≡ zeros len → Laid (dogleg n radius g H) (Err Pivot) w w'
+-- `lay`
+module _ (n : ℕ) (radius : Float) (g H : List Float) where
+  pub dogleg_none : (r : Refusal) (w w' : List Float) → refused r ≡ newton n g H → Reached (dogleg n radius g H) (Err r) w w'
   unfolding dogleg
-  dogleg_none = between_none dogleg_step n radius g H f pb w e
+  dogleg_none = between_none dogleg_step n radius g H
 
-  pub dogleg_laid : (w₁ w₂ : List Float) (r : Result Stepped Refusal) → f ≡ true → slot w₁ n 0 ≡ dogleg_step n radius pb (unconstrained n g H) → length w₁ ≡ length w
-      → Laid (handed_out (made 0 (slot w₁ n 0))) r w₁ w₂ → Laid (dogleg n radius g H) r w w₂
+  pub dogleg_made : (pb w w₁ w₂ : List Float) (r : Result Stepped Refusal) → given pb ≡ newton n g H → slot w₁ n 0 ≡ dogleg_step n radius pb (unconstrained n g H) → length w₁ ≡ length w
+      → Reached (handed_out (made 0 (slot w₁ n 0))) r w₁ w₂ → Reached (dogleg n radius g H) r w w₂
   unfolding dogleg
-  dogleg_laid w₁ w₂ r = between_laid dogleg_step n radius g H f pb w e w₁ w₂ r (dogleg_proper n radius g H)
+  dogleg_made = between_made dogleg_step n radius g H

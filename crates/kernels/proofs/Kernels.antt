@@ -9,19 +9,21 @@ use lib.ListN.{length, take, drop, length-drop, drop_of_length-le}
 use lib.Seq.{length-take-le, take_at, drop-append-add, take_all}
 use lib.Ieee.{Float}
 use borrow.Rule.Slice.PartMut.{mid_of, put_mid}
-use borrow.Author.Tests.{eqb-true}
+use borrow.Author.Tests.{eqb-true, eq-eqb}
 use Rattle.std.specs.Prelude.{Result, Ok, Err}
+use Rattle.std.specs.Result.{IsErrAnd, is_err}
+use Rattle.std.proofs.lemmas.Result.{err_from_is_err_and}
 use Rattle.float.specs.Constants.{nought}
 use Rattle.float.specs.Numbers.{finite}
 use Rattle.vectors.specs.Vector.{tab, zeros, all_finite, norm}
 use Rattle.vectors.specs.Slots.{slot}
-use Rattle.vectors.specs.Refusal.{Answer, refused, given, Check, ◌if◌, unless, judged, checked, then, all_hold, untouched_by, size, sized, room, Square, Roomy}
-use Rattle.kernels.specs.Kernel.{Kernel, Made, made, handed_out, sound_step, positive, Proper, stepped, laid_out, Laid, handed_over, Took, kernel_checks, called}
+use Rattle.vectors.specs.Refusal.{Answer, refused, given, Check, ◌if◌, unless, judged, checked, then, all_hold, untouched_by, size, sized, room}
+use Rattle.kernels.specs.Kernel.{Kernel, Made, made, handed_out, sound_step, positive, Proper, stepped, Laid, Where_made, Reached, handed_over, Took, Lent, called}
 use Rattle.vectors.specs.declared.refusal.Refusal.{Refusal}
 use Rattle.vectors.specs.declared.refusal.Refusal.TheVariants.{Size, Setting, Entry, Range}
 use Rattle.kernels.specs.declared.kernel.Stepped.{Stepped}
 use Rattle.vectors.proofs.Norms.{norm_tells}
-use Rattle.vectors.proofs.Sizes.{each_holds, square_by}
+use Rattle.vectors.proofs.Sizes.{each_holds, square_by, size_test}
 use Rattle.kernels.proofs.Rows.{low_room}
 
 -- ---- a list of checks, and the verdict on it
@@ -60,17 +62,16 @@ pub first_passed : (t : Bool) (r : Refusal) (cs : List Check) → judged ((r if 
 first_passed true r cs e = refl
 first_passed false r cs e = cc
 
--- what `?` gave back of a check
+-- a check that was refused, and what `?` gave back of it
 pub was_wrong : (r e : Refusal) (right : Bool) → Err e ≡ checked r right → (right ≡ false) × (e ≡ r)
 was_wrong r e true h = cc
 was_wrong r e false h = (refl, cc)
 
--- what a kernel was lent, where its sizes are right
-pub record Lent (n h g s scratch : ℕ) : Type 0 where
-  pub square : Square n h
-  pub gradient : g ≡ n
-  pub step : s ≡ n
-  pub roomy : Roomy n scratch
+pub by_check : {A : Type 0} (r e : Refusal) (right : Bool) (result : Result A Refusal) → IsErrAnd result (λ x. x ≡ e) → Err e ≡ checked r right → (result ≡ Err r) × (right ≡ false)
+by_check r e right result i h =
+    let p = err_from_is_err_and result i in
+    let x = was_wrong r e right h in
+    (p.1 ∙ ap Err (p.2 ∙ x.1), x.0)
 
 pub lent_true : (n h g step scratch : ℕ) → all_hold (size n ∷ eqb h (n * n) ∷ eqb g n ∷ eqb step n ∷ eqb scratch (room n) ∷ []) ≡ true → Lent n h g step scratch
 lent_true n h g step scratch e =
@@ -83,25 +84,38 @@ lent_true n h g step scratch e =
       roomy = record { high = square.high; long = eqb-true scratch (room n) t.1.1.1.1.0 };
     }
 
--- what `lay` and `hand_over` ask of it
-pub lay_ready : {n h g s scratch : ℕ} → Lent n h g s scratch → Square n h × (g ≡ n) × Roomy n scratch
-lay_ready l = (l.square, l.gradient, l.roomy)
-
+-- what `hand_over` asks of it
 pub over_ready : {n h g s scratch : ℕ} (scratch' : ℕ) → Lent n h g s scratch → scratch' ≡ scratch → (s ≡ n) × (n ≤ scratch')
 over_ready {n} scratch' l e = (l.step, omega (arith, low_room l.roomy 0 (omega arith)))
 
-module _ (settings : Bool) (n : ℕ) (radius : Float) (g H step w : List Float) where
-  pub lent : {u : Unit {0}} → Ok u ≡ judged (kernel_checks settings n radius g H step w) → Lent n (length H) (length g) (length step) (length w)
-  lent judges =
-      lent_true n (length H) (length g) (length step) (length w)
-      (first_passed (all_hold (size n ∷ sized (n * n) H ∷ sized n g ∷ sized n step ∷ sized (room n) w ∷ [])) Size ((Setting if not (positive radius && settings)) ∷ (Entry if not (all_finite g && all_finite H)) ∷ []) (sym judges))
+-- ---- the refusals of a kernel that is called directly
 
-  -- a kernel that they end
-  pub took_none : {r : Refusal} → Err r ≡ judged (kernel_checks settings n radius g H step w) → (kernel : Kernel) → Took (called settings kernel n radius g H step w) (Err r) step step w w
+module _ (settings : Bool) (kernel : Kernel) (n : ℕ) (radius : Float) (g H step w : List Float) where
+  abbrev sizes : Bool
+  sizes = all_hold (size n ∷ sized (n * n) H ∷ sized n g ∷ sized n step ∷ sized (room n) w ∷ [])
+
+  abbrev Ends : Refusal → Type 0
+  Ends r = Took (called settings kernel n radius g H step w) (Err r) step step w w
+
+  pub took_size : sizes ≡ false → Ends Size
   unfolding called
-  took_none {r} judges kernel =
-      let cs = kernel_checks settings n radius g H step w in
-      rw (unless_failed cs (kernel n radius g H) r (sym judges)) (record { says = refl; leaves = refl; clears = rw (early cs r (refl, (refl, (refl, tt))) (sym judges)) })
+  took_size e = rw e (record { says = refl; leaves = refl; clears = refl })
+
+  module _ (l : Lent n (length H) (length g) (length step) (length w)) where
+    sizes_hold : sizes ≡ true
+    sizes_hold = simp (size_test l.square, eq-eqb (length H) (n * n) l.square.long, eq-eqb (length g) n l.gradient, eq-eqb (length step) n l.step, eq-eqb (length w) (room n) l.roomy.long)
+
+    pub took_setting : (positive radius && settings) ≡ false → Ends Setting
+    unfolding called
+    took_setting e = rw (sizes_hold, e) (record { says = refl; leaves = refl; clears = refl })
+
+    pub took_entry : (positive radius && settings) ≡ true → (all_finite g && all_finite H) ≡ false → Ends Entry
+    unfolding called
+    took_entry e f = rw (sizes_hold, e, f) (record { says = refl; leaves = refl; clears = refl })
+
+    pub goes_on : (positive radius && settings) ≡ true → (all_finite g && all_finite H) ≡ true → called settings kernel n radius g H step w ≡ kernel n radius g H
+    unfolding called
+    goes_on e f = rw (sizes_hold, e, f)
 
 -- ---- the answers that a kernel may give
 
@@ -133,12 +147,26 @@ then_handed n (given m) p = handed_proper n m p
 -- ---- how a kernel ends for a session
 
 -- only the scratch's length counts
-laid_length : (n : ℕ) (a : Answer Made) (w₁ w : List Float) → Proper n a → length w₁ ≡ length w → laid_out a w₁ ≡ laid_out a w
-laid_length n (refused r) w₁ w p l = rw p (ap zeros l)
-laid_length n (given m) w₁ w p l = ap (λ (k : ℕ). m.step ++ zeros (k - length m.step)) l
+where_same : (a : Answer Made) (w₁ w w' : List Float) → length w₁ ≡ length w → Where_made a w₁ w' → Where_made a w w'
+where_same (refused r) w₁ w w' l h = tt
+where_same (given m) w₁ w w' l h = h ∙ ap (λ (k : ℕ). m.step ++ zeros (k - length m.step)) l
 
-pub laid_same : (n : ℕ) (a b : Answer Made) (r : Result Stepped Refusal) (w₁ w w' : List Float) → Proper n b → a ≡ b → length w₁ ≡ length w → Laid a r w₁ w' → Laid b r w w'
-laid_same n a b r w₁ w w' p e l h = record { says = h.says ∙ ap stepped e; lays = h.lays ∙ ap (λ (x : Answer Made). laid_out x w₁) e ∙ laid_length n b w₁ w p l }
+pub reached_same : (a b : Answer Made) (r : Result Stepped Refusal) (w₁ w w' : List Float) → a ≡ b → length w₁ ≡ length w → Reached a r w₁ w' → Reached b r w w'
+reached_same a b r w₁ w w' e l h =
+    record { says = h.says ∙ ap stepped e; lays = subst (λ (x : Answer Made). Where_made x w w') e (where_same a w₁ w w' l h.lays) }
+
+-- a refusal says nothing of the scratch
+pub reached_none : (a : Answer Made) (r : Refusal) (w w' : List Float) → refused r ≡ a → Reached a (Err r) w w'
+reached_none a r w w' e = subst (λ (x : Answer Made). Reached x (Err r) w w') e (record { says = refl; lays = tt })
+
+-- which is then cleared
+pub laid_refused : (n : ℕ) (a : Answer Made) (r : Result Stepped Refusal) (w w₁ w₂ : List Float) → Proper n a → length w₁ ≡ length w → Reached a r w w₁ → is_err r ≡ true → w₂ ≡ zeros (length w₁) → Laid a r w w₂
+laid_refused n (refused x) r w w₁ w₂ p l h t z = record { says = h.says; lays = z ∙ ap zeros l ∙ rw p }
+laid_refused n (given m) r w w₁ w₂ p l h t z = absurd (let e : false ≡ true = sym (ap is_err h.says) ∙ t in cc)
+
+pub laid_made : (a : Answer Made) (r : Result Stepped Refusal) (w w₁ : List Float) → Reached a r w w₁ → is_err r ≡ false → Laid a r w w₁
+laid_made (refused x) r w w₁ h t = absurd (let e : true ≡ false = sym (ap is_err h.says) ∙ t in cc)
+laid_made (given m) r w w₁ h t = record { says = h.says; lays = h.lays }
 
 -- `settle_by`: the norm of the step alone tells whether it is sound
 module _ (n passes : ℕ) (w : List Float) (long : Float) (is : long ≡ norm (slot w n 0)) where
@@ -146,12 +174,12 @@ module _ (n passes : ℕ) (w : List Float) (long : Float) (is : long ≡ norm (s
   unfolding sound_step
   known b t = sym (norm_tells (slot w n 0)) ∙ sym (ap finite is) ∙ t
 
-  pub unsettled : (w' : List Float) → finite long ≡ false → w' ≡ zeros (length w) → Laid (handed_out (made passes (slot w n 0))) (Err Range) w w'
+  pub unsettled : finite long ≡ false → Reached (handed_out (made passes (slot w n 0))) (Err Range) w w
   unfolding handed_out
-  unsettled w' t z = rw (known false t) (record { says = refl; lays = z })
+  unsettled t = rw (known false t) (record { says = refl; lays = tt })
 
   pub settled : (ys : List Float) → finite long ≡ true → n ≤ length w → ys ≡ zeros (length (mid_of n (length w - n) w))
-      → Laid (handed_out (made passes (slot w n 0))) (Ok (record { passes = passes; norm = long })) w (put_mid n (length w - n) w ys)
+      → Reached (handed_out (made passes (slot w n 0))) (Ok (record { passes = passes; norm = long })) w (put_mid n (length w - n) w ys)
   unfolding handed_out slot
   settled ys t h z =
       let none : 0 * n ≡ 0 = omega arith in
@@ -193,19 +221,14 @@ cleared_laid v k size a b =
 -- from what a kernel laid out in w₁ and `hand_over` made of it
 module _ (n : ℕ) (found r : Result Stepped Refusal) (step step' w w₁ w' : List Float) (l : length w₁ ≡ length w)
     (b : n ≤ length w) (h : (r ≡ found) × (step' ≡ handed_over found (slot w₁ n 0) step) × (w' ≡ handed_over found (zeros n ++ drop n w₁) w₁)) where
-  took_one : (a : Answer Made) → Proper n a → Laid a found w w₁ → Took a r step step' w w'
-  took_one (refused x) p laid = record {
+  pub took : (a : Answer Made) → Proper n a → Laid a found w w₁ → Took a r step step' w w'
+  took (refused x) p laid = record {
     says = h.0 ∙ laid.says;
     leaves = h.1 ∙ ap (λ (s : Result Stepped Refusal). handed_over s (slot w₁ n 0) step) laid.says;
     clears = h.2 ∙ ap (λ (s : Result Stepped Refusal). handed_over s (zeros n ++ drop n w₁) w₁) laid.says ∙ laid.lays;
   }
-  took_one (given m) p laid = record {
+  took (given m) p laid = record {
     says = h.0 ∙ laid.says;
     leaves = h.1 ∙ ap (λ (s : Result Stepped Refusal). handed_over s (slot w₁ n 0) step) laid.says ∙ ap (λ (u : List Float). slot u n 0) laid.lays ∙ slot_laid m.step _ n p;
     clears = h.2 ∙ ap (λ (s : Result Stepped Refusal). handed_over s (zeros n ++ drop n w₁) w₁) laid.says ∙ ap (λ (u : List Float). zeros n ++ drop n u) laid.lays ∙ cleared_laid m.step n (length w) (omega arith) b;
   }
-
-  pub took : (settings : Bool) (kernel : Kernel) (radius : Float) (g H : List Float) → {u : Unit {0}} → Ok u ≡ judged (kernel_checks settings n radius g H step w)
-      → Proper n (kernel n radius g H) → Laid (kernel n radius g H) found w w₁ → Took (called settings kernel n radius g H step w) r step step' w w'
-  unfolding called
-  took settings kernel radius g H j p laid = rw (unless_passed (kernel_checks settings n radius g H step w) (kernel n radius g H) (sym j)) (took_one (kernel n radius g H) p laid)

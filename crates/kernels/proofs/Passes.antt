@@ -1,5 +1,5 @@
 -- Laws of Steihaug's roots and passes. Assumes nothing.
-use mathlib.Core.Path.{◌≡◌, refl, sym, ◌∙◌, ap, subst}
+use mathlib.Core.Path.{◌≡◌, refl, ◌∙◌, ap, subst}
 use mathlib.Core.Bool.{Bool, true, false, cond, ◌&&◌, ◌||◌}
 use mathlib.Core.List.{List, [], ◌∷◌, ◌++◌, map}
 use Prim.Native.Nat.{ℕ, zero, suc, ◌+◌, ◌*◌, ◌-◌, ◌<◌, ◌≤◌}
@@ -8,7 +8,7 @@ use native.Mathlib.Omega.{arith}
 use lib.ListN.{length, take}
 use lib.Seq.{take_at, length-take-le}
 use lib.Ieee.{Float, lt, le, neg, is_nan}
-use Rattle.std.specs.Prelude.{Result, Ok, Err}
+use Rattle.std.specs.Prelude.{None, Some, Result}
 use Rattle.float.specs.Numbers.{◌⊕◌, ◌⊖◌, ◌⊗◌, ◌⊘◌, square, finite}
 use Rattle.float.specs.Constants.{nought, one, two, half}
 use Rattle.float.proofs.Order.{lt_self}
@@ -17,20 +17,18 @@ use Rattle.vectors.specs.Slots.{slot, Puts}
 use Rattle.vectors.specs.Vector.{dot, norm, times, weighted, scale, zeros}
 use Rattle.kernels.specs.Workspace.{each}
 use Rattle.vectors.specs.Refusal.{Answer, refused, given, then, untouched_by}
-use Rattle.vectors.specs.Calls.{tells}
-use Rattle.kernels.specs.Kernel.{Made, made, handed_out, Proper, Laid}
+use Rattle.kernels.specs.Kernel.{Made, made, handed_out, Proper, Reached}
 use Rattle.kernels.specs.Steihaug.{roots, roots_at, listed, ahead, model, valued, lesser, any_nan, by_model, larger, largest_from, forward, State, Pass, stops, goes_on, after, stops_at, curved, crossing, onward, straight, pass, run, steihaug, start, state_in, Keeps}
 use Rattle.kernels.specs.declared.kernel.Stepped.{Stepped}
 use Rattle.vectors.specs.declared.refusal.Refusal.{Refusal}
 use Rattle.vectors.specs.declared.refusal.Refusal.TheVariants.{Root}
 use Rattle.kernels.specs.declared.workspace.Op.TheVariants.{Same, PlusTimes, TurnedPlusTimes}
 use Rattle.kernels.specs.declared.steihaug.Roots.{Roots}
-use Rattle.kernels.specs.declared.steihaug.Roots.TheVariants.{Two, Three}
 use Rattle.kernels.specs.declared.steihaug.Valued.{Valued}
 use Rattle.vectors.proofs.Vectors.{length_tab, length_plus}
 use Rattle.kernels.proofs.Ops.{each_same, each_plus_times, each_turned_plus_times}
 use Rattle.vectors.proofs.Slots.{length_slot}
-use Rattle.kernels.proofs.Kernels.{Late, handed_proper, then_handed, laid_same}
+use Rattle.kernels.proofs.Kernels.{Late, then_handed, reached_same}
 
 -- ---- roots
 
@@ -65,24 +63,6 @@ pub valued_here : (w w' g H : List Float) (n : ℕ) (tau m : Float) → Puts w n
 unfolding valued
 valued_here w w' g H n tau m put e = rw (e, put 6, each_plus_times n (slot w n 0) (slot w n 2) tau)
 
-module _ (a b c : Valued) where
-  pub first_nan : is_nan a.model ≡ true → refused Root ≡ by_model (a ∷ b ∷ c ∷ [])
-  unfolding by_model
-  first_nan e = rw e
-
-  pub second_nan : is_nan a.model ≡ false → is_nan b.model ≡ true → refused Root ≡ by_model (a ∷ b ∷ c ∷ [])
-  unfolding by_model
-  second_nan e f = rw (e, f)
-
-  pub third_nan : is_nan a.model ≡ false → is_nan b.model ≡ false → is_nan c.model ≡ true → refused Root ≡ by_model (a ∷ b ∷ c ∷ [])
-  unfolding by_model
-  third_nan e f h = rw (e, f, h)
-
-  pub no_nan : (x y : Valued) → is_nan a.model ≡ false → is_nan b.model ≡ false → is_nan c.model ≡ false → x ≡ lesser a b → y ≡ lesser x c
-      → given y.tau ≡ by_model (a ∷ b ∷ c ∷ [])
-  unfolding by_model
-  no_nan x y e f h i j = rw (e, f, h) (ap (λ (v : Valued). given v.tau) (j ∙ ap (λ (v : Valued). lesser v c) i))
-
 -- the second again in the third's place changes nothing
 module _ (a b : Valued) where
   again : lesser (lesser a b) b ≡ lesser a b
@@ -103,21 +83,21 @@ module _ (a b : Valued) where
       ∙ ap (λ (v : Valued). cond (any_nan (a ∷ b ∷ [])) (refused Root) (given v.tau)) again
 
 -- over p and d, which the models leave as they are
-module _ (n : ℕ) (g H w w₁ w₂ : List Float) (ts : Roots) (x y : Float) (a b : Valued) (o : Answer Float) where
+module _ (n : ℕ) (g H w w₁ w₂ : List Float) (ts : Roots) (a b : Valued) (o : Answer Float) where
   abbrev models : List Float → Float → Valued
   models w = valued n g H (slot w n 0) (slot w n 2)
 
   abbrev chosen : Answer Float
   chosen = by_model (map (models w) (listed ts))
 
-  module _ (e : a ≡ models w x) (k : Keeps n w w₁) (f : b ≡ models w₁ y) (l : Keeps n w₁ w₂) where
-    second_here : b ≡ models w y
+  module _ (e : a ≡ models w ts.first) (k : Keeps n w w₁) (f : b ≡ models w₁ ts.second) (l : Keeps n w₁ w₂) where
+    second_here : b ≡ models w ts.second
     second_here = let i = k.0 in let j = k.1 in cc
 
-    pub of_two : ts ≡ Two x y → o ≡ by_model (a ∷ b ∷ b ∷ []) → (o ≡ chosen) × Keeps n w w₂
+    pub of_two : ts.third ≡ None → o ≡ by_model (a ∷ b ∷ b ∷ []) → (o ≡ chosen) × Keeps n w w₂
     of_two h i = (i ∙ second_again a b ∙ rw (h, e, second_here), (l.0 ∙ k.0, l.1 ∙ k.1))
 
-    pub of_three : (w₃ : List Float) (z : Float) (c : Valued) → c ≡ models w₂ z → Keeps n w₂ w₃ → ts ≡ Three x y z → o ≡ by_model (a ∷ b ∷ c ∷ [])
+    pub of_three : (w₃ : List Float) (z : Float) (c : Valued) → c ≡ models w₂ z → Keeps n w₂ w₃ → ts.third ≡ Some z → o ≡ by_model (a ∷ b ∷ c ∷ [])
         → (o ≡ chosen) × Keeps n w w₃
     of_three w₃ z c i m h j =
         let third-here : c ≡ models w z = let p = l.0 ∙ k.0 in let d = l.1 ∙ k.1 in cc in
@@ -125,26 +105,12 @@ module _ (n : ℕ) (g H w w₁ w₂ : List Float) (ts : Roots) (x y : Float) (a 
 
 -- ---- forward
 
-module _ (held : Result Float Refusal) (x t : Float) (e : held ≡ Ok x) where
-  pub outgrown : lt x t ≡ true → given t ≡ larger (tells held) t
-  outgrown f = rw (e, f)
-
-  pub stands : lt x t ≡ false → given x ≡ larger (tells held) t
-  stands f = rw (e, f)
-
-module _ (held : Result Float Refusal) (r : Refusal) (t : Float) (e : held ≡ Err r) where
-  pub first_found : le nought t ≡ true → given t ≡ larger (tells held) t
-  first_found f = rw (e, f)
-
-  pub none_yet : le nought t ≡ false → refused r ≡ larger (tells held) t
-  none_yet f = rw (e, f)
-
-module _ (ts : Roots) (x y : Float) (a b : Answer Float) (e : a ≡ larger (refused Root) x) (f : b ≡ larger a y) where
-  pub ahead_of_two : ts ≡ Two x y → b ≡ forward (listed ts)
+module _ (ts : Roots) (a b : Answer Float) (e : a ≡ larger (refused Root) ts.first) (f : b ≡ larger a ts.second) where
+  pub ahead_of_two : ts.third ≡ None → b ≡ forward (listed ts)
   unfolding forward
   ahead_of_two h = rw (h, ← e) f
 
-  pub ahead_of_three : (z : Float) (c : Answer Float) → ts ≡ Three x y z → c ≡ larger b z → c ≡ forward (listed ts)
+  pub ahead_of_three : (z : Float) (c : Answer Float) → ts.third ≡ Some z → c ≡ larger b z → c ≡ forward (listed ts)
   unfolding forward
   ahead_of_three z c h i = rw (h, ← e, ← f) i
 
@@ -161,14 +127,6 @@ module _ (w w' : List Float) (n k x y : ℕ) where
   put_turned t p = subst (λ (v : List Float). Puts w n k v w') (each_turned_plus_times n (slot w n x) (slot w n y) t) p
 
 -- ---- the ends of a pass
-
-module _ (n : ℕ) (tau : Result Float Refusal) (w : List Float) where
-  pub at_point : (w' : List Float) (t : Float) → tau ≡ Ok t → Puts w n 6 (ahead n (slot w n 0) (slot w n 2) t) w'
-      → stops (given (slot w' n 6)) ≡ stops_at n (slot w n 0) (slot w n 2) (tells tau)
-  at_point w' t e put = rw (e, put 6)
-
-  pub no_point : (r : Refusal) → tau ≡ Err r → stops (refused r) ≡ stops_at n (slot w n 0) (slot w n 2) (tells tau)
-  no_point r e = rw e
 
 module _ (n : ℕ) (radius : Float) (w ts : List Float) (tau : Answer Float) (o : Pass) (e : ts ≡ roots_at radius (slot w n 0) (slot w n 2)) where
   pub by_model_here : (g H w₁ : List Float) → (tau ≡ by_model (map (valued n g H (slot w n 0) (slot w n 2)) ts)) × Keeps n w w₁
@@ -329,10 +287,10 @@ steihaug_proper epsilon limit n radius g H =
     (either (Proper n) (lt (norm g) epsilon) long (run_proper n radius (epsilon ⊗ norm g) g H limit 0 (start n g) long))
 
 -- the point of slot 6, moved to slot 0 and settled there
-pub moved_laid : (n passes : ℕ) (w w₁ w₂ : List Float) (r : Result Stepped Refusal) → 6 * n + n ≤ length w → Puts w n 0 (slot w n 6) w₁ → length w₁ ≡ length w
-    → Laid (handed_out (made passes (slot w₁ n 0))) r w₁ w₂ → Laid (handed_out (made passes (slot w n 6))) r w w₂
-moved_laid n passes w w₁ w₂ r h p l e =
-    laid_same n (handed_out (made passes (slot w₁ n 0))) (handed_out (made passes (slot w n 6))) r w₁ w w₂ (handed_proper n (made passes (slot w n 6)) (length_slot w n 6 h)) (ap (λ (v : List Float). handed_out (made passes v)) (p 0)) l e
+pub moved_laid : (n passes : ℕ) (w w₁ w₂ : List Float) (r : Result Stepped Refusal) → Puts w n 0 (slot w n 6) w₁ → length w₁ ≡ length w
+    → Reached (handed_out (made passes (slot w₁ n 0))) r w₁ w₂ → Reached (handed_out (made passes (slot w n 6))) r w w₂
+moved_laid n passes w w₁ w₂ r p l e =
+    reached_same (handed_out (made passes (slot w₁ n 0))) (handed_out (made passes (slot w n 6))) r w₁ w w₂ (ap (λ (v : List Float). handed_out (made passes v)) (p 0)) l e
 
 -- ---- the kernel, where w holds the start
 
@@ -340,19 +298,16 @@ module _ (epsilon : Float) (limit n : ℕ) (radius : Float) (g H w : List Float)
   abbrev whole : Answer Made
   whole = steihaug epsilon limit n radius g H
 
-  pub at_once : (w₀ : List Float) → length w ≡ length w₀ → (r : Result Stepped Refusal) (w' : List Float) → lt norm-g epsilon ≡ true → Laid (handed_out (made 0 (slot w n 0))) r w w' → Laid whole r w₀ w'
+  pub at_once : (w₀ : List Float) → length w ≡ length w₀ → (r : Result Stepped Refusal) (w' : List Float) → lt norm-g epsilon ≡ true → Reached (handed_out (made 0 (slot w n 0))) r w w' → Reached whole r w₀ w'
   unfolding steihaug start
   at_once w₀ l r w' t h =
-      laid_same n (handed_out (made 0 (slot w n 0))) whole r w w₀ w' (steihaug_proper epsilon limit n radius g H)
+      reached_same (handed_out (made 0 (slot w n 0))) whole r w w₀ w'
       (rw (← e, t) (ap (λ (st : State). handed_out (made 0 st.p)) s)) l h
 
   module _ (o : Answer Made) (t : lt norm-g epsilon ≡ false) (f : o ≡ run n radius (epsilon ⊗ norm-g) g H limit 0 (state_in w n rtr)) where
-    is_whole : then handed_out o ≡ whole
+    pub is_whole : then handed_out o ≡ whole
     unfolding steihaug
     is_whole = rw (← e, t, ← s) (ap (then handed_out) f)
 
-    pub passes_proper : Proper n (then handed_out o)
-    passes_proper = subst (Proper n) (sym is_whole) (steihaug_proper epsilon limit n radius g H)
-
-    pub in_passes : (w₀ w₁ w' : List Float) (r : Result Stepped Refusal) → length w ≡ length w₀ → length w₁ ≡ length w → Laid (then handed_out o) r w₁ w' → Laid whole r w₀ w'
-    in_passes w₀ w₁ w' r l m h = laid_same n (then handed_out o) whole r w₁ w₀ w' (steihaug_proper epsilon limit n radius g H) is_whole (m ∙ l) h
+    pub in_passes : (w₀ w₁ w' : List Float) (r : Result Stepped Refusal) → length w ≡ length w₀ → length w₁ ≡ length w → Reached (then handed_out o) r w₁ w' → Reached whole r w₀ w'
+    in_passes w₀ w₁ w' r l m h = reached_same (then handed_out o) whole r w₁ w₀ w' is_whole (m ∙ l) h

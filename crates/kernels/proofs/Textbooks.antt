@@ -12,7 +12,7 @@ use Rattle.root.specs.Root.{root}
 use Rattle.vectors.specs.Vector.{norm, weighted, minus, scale}
 use Rattle.vectors.specs.Slots.{slot, Puts}
 use Rattle.kernels.specs.Workspace.{each}
-use Rattle.kernels.specs.Kernel.{Proper, Laid}
+use Rattle.kernels.specs.Kernel.{Proper, Reached}
 use Rattle.kernels.specs.CauchyPoint.{cauchy_point}
 use Rattle.kernels.specs.Dogleg.{measured, towards, unconstrained, between, Measures_in}
 use Rattle.kernels.specs.Textbook.{first_leg, along, second_leg, legs, textbook_step, textbook_dogleg}
@@ -35,7 +35,7 @@ textbook_long n radius pb pu e =
     (chosen_long n (le radius (norm pu)) (first_leg n radius pu) (second_leg n radius pu v) (length_scale n pu (radius ⊘ norm pu)) (length_plus n pu (scale n v (measured radius pu v along))))
 
 -- past its first test
-pub legs_proper : (n : ℕ) (radius : Float) (g H : List Float) → Proper n (between textbook_step n radius g H)
+legs_proper : (n : ℕ) (radius : Float) (g H : List Float) → Proper n (between textbook_step n radius g H)
 legs_proper n radius g H = between_proper textbook_step n radius g H (textbook_long n radius)
 
 pub textbook_proper : (n : ℕ) (radius : Float) (g H : List Float) → Proper n (textbook_dogleg n radius g H)
@@ -70,14 +70,14 @@ module _ (n : ℕ) (radius y curvature : Float) (g w w₁ w₂ : List Float) (p 
 
 -- `lay`, by the curvature
 module _ (n : ℕ) (radius curvature : Float) (g H w w' : List Float) (r : Result Stepped Refusal) (e : curvature ≡ weighted n g H g) where
-  by_curvature : (b : Bool) → lt nought curvature ≡ b → Laid (cond b (between textbook_step n radius g H) (cauchy_point n radius g H)) r w w' → Laid (textbook_dogleg n radius g H) r w w'
+  by_curvature : (b : Bool) → lt nought curvature ≡ b → Reached (cond b (between textbook_step n radius g H) (cauchy_point n radius g H)) r w w' → Reached (textbook_dogleg n radius g H) r w w'
   unfolding textbook_dogleg
-  by_curvature b t h = subst (λ (x : Bool). Laid (cond x (between textbook_step n radius g H) (cauchy_point n radius g H)) r w w') (sym t ∙ ap (lt nought) e) h
+  by_curvature b t h = subst (λ (x : Bool). Reached (cond x (between textbook_step n radius g H) (cauchy_point n radius g H)) r w w') (sym t ∙ ap (lt nought) e) h
 
-  pub as_cauchys : lt nought curvature ≡ false → Laid (cauchy_point n radius g H) r w w' → Laid (textbook_dogleg n radius g H) r w w'
+  pub as_cauchys : lt nought curvature ≡ false → Reached (cauchy_point n radius g H) r w w' → Reached (textbook_dogleg n radius g H) r w w'
   as_cauchys t h = by_curvature false t h
 
-  pub by_legs : lt nought curvature ≡ true → Laid (between textbook_step n radius g H) r w w' → Laid (textbook_dogleg n radius g H) r w w'
+  pub by_legs : lt nought curvature ≡ true → Reached (between textbook_step n radius g H) r w w' → Reached (textbook_dogleg n radius g H) r w w'
   by_legs t h = by_curvature true t h
 
 -- the step, where ‖pb‖ is x

@@ -1,13 +1,16 @@
 -- A kernel's choice: which kernel, and what it is told beside the radius and its lists. Definitions only.
-use Rattle.std.specs.Prelude.{Bool, cond, not, ◌&&◌, List, [], ◌∷◌, ℕ, ◌*◌, eqb, leb, Float}
+use Rattle.std.specs.Prelude.{◌≡◌, Result, Ok, Err, true, false, Bool, cond, not, ◌&&◌, List, [], ◌∷◌, ℕ, ◌*◌, eqb, leb, Float}
 use Rattle.float.specs.Constants.{billionth}
 use Rattle.vectors.specs.Refusal.{Answer, Check, ◌if◌, unless, all_hold, size, sized, room}
-use Rattle.kernels.specs.Kernel.{Kernel, Made, positive, bounds}
+use Rattle.kernels.specs.Kernel.{Kernel, Made, positive, bounds, bounded}
 use Rattle.kernels.specs.CauchyPoint.{cauchy_point}
 use Rattle.kernels.specs.Dogleg.{dogleg}
 use Rattle.kernels.specs.Textbook.{textbook_dogleg}
 use Rattle.kernels.specs.Steihaug.{steihaug}
 use Rattle.kernels.specs.declared.choice.Choice.{Choice}
+use Rattle.kernels.specs.declared.choice.Kernel.{Kernel as Named}
+use Rattle.kernels.specs.declared.choice.Kernel.TheVariants as named
+use Rattle.vectors.specs.declared.refusal.Refusal.{Refusal}
 use Rattle.vectors.specs.declared.refusal.Refusal.TheVariants.{Size, Setting}
 
 -- of what is told; of the two doglegs it is the ported one
@@ -47,6 +50,23 @@ asked c = cond (eqb c.kernel 3) (in_range c) (known c)
 unfoldable pub kernel : Choice → Kernel
 unfolding cauchy_point dogleg textbook_dogleg steihaug
 kernel c = cond (eqb c.kernel 1) cauchy_point (cond (eqb c.kernel 2) (cond (eqb c.dogleg 1) dogleg textbook_dogleg) (steihaug c.epsilon c.limit))
+
+-- ---- the same by the code's names
+
+abbrev pub kernel_of : Named → Kernel
+kernel_of named.CauchyPoint = cauchy_point
+kernel_of named.Dogleg = dogleg
+kernel_of named.Textbook = textbook_dogleg
+kernel_of (named.Steihaug epsilon limit) = steihaug epsilon limit
+
+abbrev pub bounds_of : Named → Bool
+bounds_of (named.Steihaug epsilon limit) = bounded epsilon limit
+bounds_of _ = true
+
+-- what the code finds of a choice: the kernel that it names, or refusal 2
+abbrev pub Names : Choice → Result Named Refusal → Type 0
+Names c (Ok k) = (known c ≡ true) × (kernel_of k ≡ kernel c) × (bounds_of k ≡ asked c)
+Names c (Err r) = (known c ≡ false) × (r ≡ Setting)
 
 -- ---- the sessions' door: a session has made its own checks, and here stand those without which no kernel can run
 

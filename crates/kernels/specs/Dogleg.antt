@@ -1,15 +1,14 @@
 -- "Dogleg." Definitions only.
-use Rattle.std.specs.Prelude.{◌≡◌, Bool, cond, ◌&&◌, List, [], ◌∷◌, ◌⊎◌, ℕ, T, Float}
+use Rattle.std.specs.Prelude.{◌≡◌, cond, ◌&&◌, List, [], ◌∷◌, ◌⊎◌, ℕ, T, Float}
 use Rattle.std.specs.Float.Ieee.{lt, le, neg}
 use Rattle.float.specs.Numbers.{◌⊕◌, ◌⊖◌, ◌⊗◌, ◌⊘◌, square}
 use Rattle.float.specs.Constants.{nought, one, two}
 use Rattle.root.specs.Root.{root}
 use Rattle.vectors.specs.Vector.{dot, norm, weighted, plus, minus, scale}
 use Rattle.vectors.specs.Slots.{slot}
-use Rattle.vectors.specs.Refusal.{Answer, refused, given, then}
+use Rattle.vectors.specs.Refusal.{Answer, given, then}
 use Rattle.kernels.specs.Inverse.{eliminated, inverse_times}
 use Rattle.kernels.specs.Kernel.{Kernel, made, handed_out}
-use Rattle.vectors.specs.declared.refusal.Refusal.TheVariants.{Pivot}
 use Rattle.kernels.specs.declared.dogleg.Measures.{Measures}
 
 -- "Candidates in order: −((t + c) − k)/k; ((t − c) + k)/k; ((2c + D) − u)/(2c)", with "t = root((c² + D·k) − k·u)"
@@ -79,10 +78,6 @@ unfolding between dogleg_step
 dogleg = between dogleg_step
 
 -- ---- how the code holds these: pb, pu and v in slots 0, 1 and 2 of the scratch
-
--- what was found, where r says that every pivot was taken
-unfoldable pub newton_in : Bool → List Float → Answer (List Float)
-newton_in r pb = cond r (given pb) (refused Pivot)
 
 -- v is in its place, c, k and u are measured, and pu is as it was
 pub record Measures_in (n : ℕ) (w : List Float) (m : Measures) (w' : List Float) : Type 0 where

@@ -4,7 +4,7 @@ use Rattle.std.specs.Float.Ieee.{lt}
 use Rattle.float.specs.Numbers.{finite}
 use Rattle.float.specs.Constants.{nought}
 use Rattle.vectors.specs.Vector.{zeros, norm, all_finite}
-use Rattle.vectors.specs.Refusal.{Answer, refused, given, Check, ◌if◌, unless, all_hold, untouched_by, size, sized, room, left_in, scratch_after}
+use Rattle.vectors.specs.Refusal.{Answer, refused, given, Check, ◌if◌, unless, all_hold, untouched_by, size, sized, room, Square, Roomy, left_in, scratch_after}
 use Rattle.kernels.specs.declared.kernel.Stepped.{Stepped}
 use Rattle.vectors.specs.declared.refusal.Refusal.{Refusal}
 use Rattle.vectors.specs.declared.refusal.Refusal.TheVariants.{Size, Setting, Entry, Range}
@@ -51,6 +51,15 @@ pub record Laid (answer : Answer Made) (r : Result Stepped Refusal) (scratch scr
   pub says : r ≡ stepped answer
   pub lays : scratch' ≡ laid_out answer scratch
 
+-- The kernels themselves leave that to who calls them where they refuse: of the scratch nothing is said there.
+abbrev pub Where_made : Answer Made → (scratch scratch' : List Float) → Type 0
+Where_made (refused r) old new = Unit {0}
+Where_made (given m) old new = new ≡ laid_out (given m) old
+
+pub record Reached (answer : Answer Made) (r : Result Stepped Refusal) (scratch scratch' : List Float) : Type 0 where
+  pub says : r ≡ stepped answer
+  pub lays : Where_made answer scratch scratch'
+
 -- what a direct caller's step becomes: the step that was laid out, or what it was
 abbrev pub handed_over : Result Stepped Refusal → (laid step : List Float) → List Float
 handed_over (Ok made) laid step = laid
@@ -75,6 +84,13 @@ bounds epsilon limit = positive epsilon ∷ leb limit 10000 ∷ []
 
 abbrev pub bounded : Float → ℕ → Bool
 bounded epsilon limit = all_hold (bounds epsilon limit)
+
+-- as facts: the lengths of a kernel's matrix, gradient, step and scratch are right
+pub record Lent (n h g s scratch : ℕ) : Type 0 where
+  pub square : Square n h
+  pub gradient : g ≡ n
+  pub step : s ≡ n
+  pub roomy : Roomy n scratch
 
 -- `settings` is what the kernel asks of its settings beside the radius
 abbrev pub kernel_checks : Bool → ℕ → Float → (g H step scratch : List Float) → List Check

@@ -6,4 +6,5 @@ pub mod CauchyPoint
 pub mod Dogleg
 pub mod Textbook
 pub mod Steihaug
+pub mod Subproblem
 pub mod Choice

@@ -1,5 +1,6 @@
 -- "Steihaug." Definitions only.
-use Rattle.std.specs.Prelude.{◌≡◌, Bool, false, ◌&&◌, ◌||◌, List, [], ◌∷◌, map, Float}
+use Rattle.std.specs.Prelude.{◌≡◌, Bool, false, ◌&&◌, ◌||◌, List, [], ◌∷◌, map, Option, None, Some, Result, Ok, Err, Float}
+use Rattle.vectors.specs.declared.refusal.Refusal.{Refusal}
 use Rattle.std.proofs.Math.Bool.{cond}
 use Prim.Native.Nat.{ℕ, zero, suc}
 use Rattle.std.specs.Float.Ieee.{lt, le, neg, is_nan}
@@ -12,10 +13,9 @@ use Rattle.vectors.specs.Refusal.{Answer, refused, given, then}
 use Rattle.kernels.specs.Kernel.{Kernel, Made, made, handed_out}
 use Rattle.vectors.specs.declared.refusal.Refusal.TheVariants.{Root}
 use Rattle.kernels.specs.declared.steihaug.Roots.{Roots}
-use Rattle.kernels.specs.declared.steihaug.Roots.TheVariants.{Two, Three}
 use Rattle.kernels.specs.declared.steihaug.Valued.{Valued}
 use Rattle.kernels.specs.declared.steihaug.Turn.{Turn}
-use Rattle.kernels.specs.declared.steihaug.Turn.TheVariants.{Boundary, Inside, Refused, WentOn}
+use Rattle.kernels.specs.declared.steihaug.Turn.TheVariants.{Boundary, Inside, WentOn}
 use Rattle.kernels.specs.declared.steihaug.Exit.{Exit}
 use Rattle.kernels.specs.declared.steihaug.Exit.TheVariants as exit
 
@@ -36,9 +36,12 @@ unfolding roots dot
 roots_at radius p d = roots (dot p p) (dot d d) (dot p d) (square radius)
 
 -- the list that the code's roots stand for
+abbrev pub with_third : Option Float → List Float
+with_third None = []
+with_third (Some third) = third ∷ []
+
 abbrev pub listed : Roots → List Float
-listed (Two first second) = first ∷ second ∷ []
-listed (Three first second third) = first ∷ second ∷ third ∷ []
+listed ts = ts.first ∷ ts.second ∷ with_third ts.third
 
 -- p + d·tau
 abbrev pub ahead : ℕ → (p d : List Float) → Float → List Float
@@ -81,6 +84,11 @@ largest_from held (t ∷ ts) = largest_from (larger held t) ts
 
 unfoldable pub forward : List Float → Answer Float
 forward ts = largest_from (refused Root) ts
+
+-- how the code holds the largest so far
+abbrev pub root_of : Option Float → Answer Float
+root_of None = refused Root
+root_of (Some t) = given t
 
 -- ---- passes
 
@@ -168,15 +176,18 @@ abbrev pub Keeps : ℕ → (w w' : List Float) → Type 0
 Keeps n w w' = (slot w' n 0 ≡ slot w n 0) × (slot w' n 2 ≡ slot w n 2)
 
 -- what a pass of the code stands for, with the scratch that it left
-abbrev pub passed : Turn → ℕ → List Float → Pass
-passed Boundary n w = stops (given (slot w n 6))
-passed Inside n w = stops (given (slot w n 6))
-passed (Refused r) n w = stops (refused r)
-passed (WentOn rtr) n w = goes_on (state_in w n rtr)
+abbrev pub passed : Result Turn Refusal → ℕ → List Float → Pass
+passed (Ok Boundary) n w = stops (given (slot w n 6))
+passed (Ok Inside) n w = stops (given (slot w n 6))
+passed (Ok (WentOn rtr)) n w = goes_on (state_in w n rtr)
+passed (Err r) n w = stops (refused r)
 
 -- and all passes
-abbrev pub ran : Exit → ℕ → List Float → Answer Made
-ran (exit.Limit k) n w = given (made k (slot w n 0))
-ran (exit.Boundary k) n w = given (made k (slot w n 6))
-ran (exit.Inside k) n w = given (made k (slot w n 6))
-ran (exit.Refused r) n w = refused r
+abbrev pub ended : Exit → ℕ → List Float → Made
+ended (exit.Limit k) n w = made k (slot w n 0)
+ended (exit.Boundary k) n w = made k (slot w n 6)
+ended (exit.Inside k) n w = made k (slot w n 6)
+
+abbrev pub ran : Result Exit Refusal → ℕ → List Float → Answer Made
+ran (Ok end) n w = given (ended end n w)
+ran (Err r) n w = refused r

@@ -1,24 +1,28 @@
 // CauchyPoint: the minimum of the model along the steepest descent, within the radius
 // (Nocedal and Wright, Numerical Optimization, section 4.1).
 ghost use Rattle.std.specs.Prelude.{◌≡◌, true, length};
-ghost use Rattle.vectors.specs.Refusal.{Square, Roomy};
-ghost use Rattle.kernels.specs.Kernel.{Laid, Took, called};
+ghost use Rattle.vectors.specs.Refusal.{Roomy};
+ghost use Rattle.kernels.specs.Kernel.{Reached, Took, called};
+ghost use Rattle.kernels.specs.Subproblem.{on};
 ghost use Rattle.kernels.specs.CauchyPoint as CauchyPoint;
 
-use crate::choice::Choice;
+use crate::choice::Kernel;
 use crate::kernel::Stepped;
-use crate::{choice, inner, kernel, workspace};
+use crate::subproblem::Subproblem;
+use crate::{choice, kernel, workspace};
 use vectors::refusal::Refusal;
 use vectors::vector;
 
 // How far along −g, of the way to the radius.
+#[tactic(auto, unfolding(crate::specs::CauchyPoint::tau))]
 fn tau(radius: f64, curvature: f64, norm: f64) -> f64
     ensures { result ≡ CauchyPoint.tau radius curvature norm }
 {
     if curvature <= 0.0 {
-        return 1.0;
+        1.0
+    } else {
+        float::smaller(1.0, norm * norm * norm / (radius * curvature))
     }
-    float::smaller(1.0, norm * norm * norm / (radius * curvature))
 }
 
 // What g is multiplied by.
@@ -28,36 +32,30 @@ fn factor(radius: f64, curvature: f64, norm: f64) -> f64
     -tau(radius, curvature, norm) * radius / norm
 }
 
-// The kernel for a session, which has made its own checks.
-pub(crate) fn lay(
-    n: usize,
-    radius: f64,
-    g: &[f64],
-    h: &[f64],
-    w: &mut [f64],
-) -> Result<Stepped, Refusal>
-    requires { Square n (length h.now) × (length g.now ≡ n) × Roomy n (length w.old) }
-    ensures { Laid (CauchyPoint.cauchy_point n radius g.now h.now) result w.old w.new }
+// The kernel, over a scratch of the right size.
+pub(crate) fn lay(problem: &Subproblem, w: &mut [f64]) -> Result<Stepped, Refusal>
+    requires { Roomy problem.now.n (length w.old) }
+    ensures { Reached (on CauchyPoint.cauchy_point problem.now) result w.old w.new }
 {
-    let norm = vector::norm_any(g);
-    let curvature = inner::weighted_unchecked(n, g, h, g);
-    lay_by(n, radius, curvature, norm, g, w)
+    let norm = vector::norm_any(problem.gradient);
+    let curvature = problem.curvature(problem.gradient);
+    lay_by(problem, curvature, norm, w)
 }
 
 // The same for who knows g·H·g and ‖g‖.
 pub(crate) fn lay_by(
-    n: usize,
-    radius: f64,
+    problem: &Subproblem,
     curvature: f64,
     norm: f64,
-    g: &[f64],
     w: &mut [f64],
 ) -> Result<Stepped, Refusal>
-    requires { (length g.now ≡ n) × Roomy n (length w.old) }
-    ensures { Laid (CauchyPoint.along n radius curvature norm g.now) result w.old w.new }
+    requires { Roomy problem.now.n (length w.old) }
+    ensures { Reached (CauchyPoint.along problem.now.n problem.now.radius curvature norm problem.now.gradient.now)
+        result w.old w.new }
 {
-    workspace::put_times(n, w, 0, g, factor(radius, curvature, norm));
-    kernel::settle(n, w, 0)
+    let factor = factor(problem.radius, curvature, norm);
+    workspace::put_times(problem.n, w, 0, problem.gradient, factor);
+    kernel::settle(problem.n, w, 0)
 }
 
 // The kernel for a direct caller.
@@ -72,7 +70,13 @@ pub fn cauchy_point(
     ensures { Took (called true CauchyPoint.cauchy_point n radius gradient.now hessian.now step.old scratch.old)
         result step.old step.new scratch.old scratch.new }
 {
-    // the limit is not looked at
-    let choice = Choice::new(1, 0);
-    choice::direct(choice, n, radius, gradient, hessian, step, scratch)
+    choice::call(
+        Kernel::CauchyPoint,
+        n,
+        radius,
+        gradient,
+        hessian,
+        step,
+        scratch,
+    )
 }

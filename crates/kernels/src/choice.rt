@@ -1,14 +1,16 @@
 // A kernel's choice: one inner door for both sessions, and the way that every direct caller goes.
-ghost use Rattle.std.specs.Prelude.{◌≡◌, length};
-ghost use Rattle.vectors.specs.Refusal.{Square, Roomy};
-ghost use Rattle.kernels.specs.Kernel.{Laid, Took, called};
+ghost use Rattle.std.specs.Prelude.{◌≡◌, ◌&&◌, length};
+ghost use Rattle.vectors.specs.Refusal.{Roomy};
+ghost use Rattle.kernels.specs.Kernel.{positive, Lent, Laid, Reached, Took, called};
+ghost use Rattle.kernels.specs.Subproblem.{on};
 ghost use Rattle.kernels.specs.Choice as Definition;
-ghost use Rattle.kernels.specs.Choice.{by_default, choice_of, choosing, in_range, door};
+ghost use Rattle.kernels.specs.Choice.{by_default, choice_of, choosing, in_range, door, kernel_of, bounds_of, Names};
 
 use crate::kernel::Stepped;
+use crate::subproblem::Subproblem;
 use crate::{cauchypoint, dogleg, kernel, steihaug, textbook};
-use vectors::refusal;
 use vectors::refusal::Refusal;
+use vectors::vector;
 
 // Which kernel, and what it is told beside the radius and its lists: epsilon and the limit are Steihaug's, and of the two
 // doglegs 1 is the ported one, 2 the textbook's.
@@ -37,9 +39,9 @@ impl Choice {
         ensures { result ≡ choice_of kernel epsilon limit }
     {
         Self {
-            kernel: kernel,
-            epsilon: epsilon,
-            limit: limit,
+            kernel,
+            epsilon,
+            limit,
             dogleg: Self::DOGLEG,
         }
     }
@@ -53,70 +55,85 @@ impl Choice {
     }
 }
 
-// One of the numbers from 1 to the last.
-#[tactic(auto, unfolding(crate::specs::Choice::among))]
-fn among(number: u64, last: u64) -> bool
-    ensures { result ≡ Definition.among number last }
-{
-    if number < 1 {
-        return false;
-    }
-    number <= last
+// The kernels by name, each with what it is told beside the subproblem.
+#[derive(Clone, Copy, Debug, PartialEq)]
+pub(crate) enum Kernel {
+    CauchyPoint,
+    Dogleg,
+    Textbook,
+    Steihaug { epsilon: f64, limit: u64 },
 }
 
-// The number of a kernel, and that of a dogleg, whatever the kernel.
-#[tactic(auto, unfolding(crate::specs::Choice::known))]
-fn known(choice: Choice) -> bool
-    ensures { result ≡ Definition.known choice }
-{
-    among(choice.kernel, 3) && among(choice.dogleg, 2)
+// The kernel that a choice's numbers name; of others refusal 2: a kernel is 1 to 3 and a dogleg 1 or 2, whatever the kernel.
+impl TryFrom<Choice> for Kernel {
+    type Error = Refusal;
+
+    ghost try_from_gives = { Names };
+
+    #[tactic(auto, unfolding(crate::specs::Choice::among, crate::specs::Choice::known, crate::specs::Choice::in_range, crate::specs::Choice::asked, crate::specs::Choice::kernel))]
+    fn try_from(choice: Choice) -> Result<Self, Refusal> {
+        match (choice.kernel, choice.dogleg) {
+            (1, 1 | 2) => Ok(Kernel::CauchyPoint),
+            (2, 1) => Ok(Kernel::Dogleg),
+            (2, 2) => Ok(Kernel::Textbook),
+            (3, 1 | 2) => Ok(Kernel::Steihaug {
+                epsilon: choice.epsilon,
+                limit: choice.limit,
+            }),
+            _ => Err(Refusal::Setting),
+        }
+    }
 }
 
 // What a session asks of its choice, whatever the kernel.
+#[tactic(auto, unfolding(crate::specs::Choice::in_range))]
 pub fn in_range(choice: Choice) -> bool
     ensures { result ≡ in_range choice }
 {
-    refusal::all_hold(&[
-        known(choice),
-        kernel::positive(choice.epsilon),
-        choice.limit <= 10000,
-    ])
+    Kernel::try_from(choice).is_ok() && kernel::bounded(choice.epsilon, choice.limit)
 }
 
-// What a kernel that is called directly asks of it: only Steihaug looks at epsilon and the limit.
-#[tactic(auto, unfolding(crate::specs::Choice::asked))]
-fn asked(choice: Choice) -> bool
-    ensures { result ≡ Definition.asked choice }
-{
-    if choice.kernel == 3 {
-        return in_range(choice);
-    }
-    known(choice)
-}
-
-// The kernel that is chosen, over lists of the right lengths. A kernel that is neither 1 nor 2 counts as 3 here, and a dogleg
-// that is not 1 as 2; both callers have looked.
-fn chosen(
-    choice: Choice,
-    n: usize,
-    radius: f64,
-    g: &[f64],
-    h: &[f64],
-    w: &mut [f64],
-) -> Result<Stepped, Refusal>
-    requires { Square n (length h.now) × (length g.now ≡ n) × Roomy n (length w.old) }
-    ensures { Laid (Definition.kernel choice n radius g.now h.now) result w.old w.new }
-{
-    if choice.kernel == 1 {
-        return cauchypoint::lay(n, radius, g, h, w);
-    }
-    if choice.kernel == 2 {
-        if choice.dogleg == 1 {
-            return dogleg::lay(n, radius, g, h, w);
+impl Kernel {
+    // What it asks of its settings: only Steihaug looks at epsilon and the limit.
+    fn bounded(self) -> bool
+        ensures { result ≡ bounds_of self }
+    {
+        match self {
+            Kernel::Steihaug { epsilon, limit } => kernel::bounded(epsilon, limit),
+            _ => true,
         }
-        return textbook::lay(n, radius, g, h, w);
     }
-    steihaug::lay(n, radius, choice.epsilon, choice.limit, g, h, w)
+
+    // What a direct caller is asked for beside the lists.
+    fn settings_right(self, radius: f64) -> bool
+        ensures { result ≡ (positive radius && bounds_of self) }
+    {
+        kernel::positive(radius) && self.bounded()
+    }
+
+    fn run(self, problem: &Subproblem, w: &mut [f64]) -> Result<Stepped, Refusal>
+        requires { Roomy problem.now.n (length w.old) }
+        ensures { Reached (on (kernel_of self) problem.now) result w.old w.new }
+    {
+        match self {
+            Kernel::CauchyPoint => cauchypoint::lay(problem, w),
+            Kernel::Dogleg => dogleg::lay(problem, w),
+            Kernel::Textbook => textbook::lay(problem, w),
+            Kernel::Steihaug { epsilon, limit } => steihaug::lay(problem, epsilon, limit, w),
+        }
+    }
+
+    // The same, and a refusal leaves +0 in the scratch.
+    fn lay(self, problem: &Subproblem, w: &mut [f64]) -> Result<Stepped, Refusal>
+        requires { Roomy problem.now.n (length w.old) }
+        ensures { Laid (on (kernel_of self) problem.now) result w.old w.new }
+    {
+        let found = self.run(problem, w);
+        if found.is_err() {
+            vector::clear(w);
+        }
+        found
+    }
 }
 
 // The sessions' door, for callers that have looked. Asked here is what no kernel can run without: n, the lengths, and the
@@ -135,11 +152,66 @@ pub fn lay_unchecked(
 {
     // no step is lent here, hence n for its length
     Refusal::Size.unless(kernel::sized(n, hessian.len(), gradient.len(), n, scratch.len()))?;
-    Refusal::Setting.unless(known(choice))?;
-    chosen(choice, n, radius, gradient, hessian, scratch)
+    let kernel = Kernel::try_from(choice)?;
+    let problem = Subproblem {
+        n,
+        radius,
+        gradient,
+        hessian,
+    };
+    kernel.lay(&problem, scratch)
 }
 
-// A kernel for a direct caller: refusals 1, 2 and 4 before the kernel, and the copy after it.
+// A kernel for a direct caller whose lists have the right lengths: refusals 2 and 4 before the kernel, and the copy after it.
+fn call_sized(
+    kernel: Kernel,
+    n: usize,
+    radius: f64,
+    gradient: &[f64],
+    hessian: &[f64],
+    step: &mut [f64],
+    scratch: &mut [f64],
+) -> Result<Stepped, Refusal>
+    requires { Lent n (length hessian.now) (length gradient.now) (length step.old) (length scratch.old) }
+    ensures { Took (called (bounds_of kernel) (kernel_of kernel) n radius gradient.now hessian.now step.old scratch.old)
+        result step.old step.new scratch.old scratch.new }
+{
+    Refusal::Setting.unless(kernel.settings_right(radius))?;
+    Refusal::Entry.unless(vector::both_finite(gradient, hessian))?;
+    let problem = Subproblem {
+        n,
+        radius,
+        gradient,
+        hessian,
+    };
+    let found = kernel.lay(&problem, scratch);
+    kernel::hand_over(n, found, step, scratch)
+}
+
+// The same for any lists: refusal 1 comes first.
+pub(crate) fn call(
+    kernel: Kernel,
+    n: usize,
+    radius: f64,
+    gradient: &[f64],
+    hessian: &[f64],
+    step: &mut [f64],
+    scratch: &mut [f64],
+) -> Result<Stepped, Refusal>
+    ensures { Took (called (bounds_of kernel) (kernel_of kernel) n radius gradient.now hessian.now step.old scratch.old)
+        result step.old step.new scratch.old scratch.new }
+{
+    Refusal::Size.unless(kernel::sized(
+        n,
+        hessian.len(),
+        gradient.len(),
+        step.len(),
+        scratch.len(),
+    ))?;
+    call_sized(kernel, n, radius, gradient, hessian, step, scratch)
+}
+
+// The kernel that is chosen, for a direct caller.
 pub fn direct(
     choice: Choice,
     n: usize,
@@ -152,15 +224,20 @@ pub fn direct(
     ensures { Took (called (Definition.asked choice) (Definition.kernel choice) n radius gradient.now hessian.now step.old scratch.old)
         result step.old step.new scratch.old scratch.new }
 {
-    kernel::checked(
-        asked(choice),
+    Refusal::Size.unless(kernel::sized(
+        n,
+        hessian.len(),
+        gradient.len(),
+        step.len(),
+        scratch.len(),
+    ))?;
+    call_sized(
+        Kernel::try_from(choice)?,
         n,
         radius,
         gradient,
         hessian,
-        step.len(),
-        scratch.len(),
-    )?;
-    let found = chosen(choice, n, radius, gradient, hessian, scratch);
-    kernel::hand_over(n, found, step, scratch)
+        step,
+        scratch,
+    )
 }

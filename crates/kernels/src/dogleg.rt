@@ -2,14 +2,16 @@
 // (Nocedal and Wright, Numerical Optimization, section 4.1).
 ghost use Rattle.std.specs.Prelude.{◌≡◌, true, ◌*◌, ◌≤◌, length};
 ghost use Rattle.vectors.specs.Slots.{slot, Puts};
-ghost use Rattle.vectors.specs.Refusal.{Square, Roomy};
-ghost use Rattle.kernels.specs.Kernel.{Laid, Took, called};
+ghost use Rattle.vectors.specs.Refusal.{Roomy, stands_for};
+ghost use Rattle.kernels.specs.Kernel.{Reached, Took, called};
+ghost use Rattle.kernels.specs.Subproblem.{on};
 ghost use Rattle.kernels.specs.Dogleg as Dogleg;
 
-use crate::choice::Choice;
+use crate::choice::Kernel;
 use crate::kernel::Stepped;
+use crate::subproblem::Subproblem;
 use crate::workspace::Op;
-use crate::{choice, inner, inverse, kernel, workspace};
+use crate::{choice, inverse, kernel, workspace};
 use vectors::refusal::Refusal;
 use vectors::vector;
 
@@ -17,16 +19,11 @@ use vectors::vector;
 fn keep(held: f64, t: f64) -> f64
     ensures { result ≡ Dogleg.keep held t }
 {
-    if !(t >= 0.0) {
-        return held;
+    if t >= 0.0 && t <= 2.0 && t >= held {
+        t
+    } else {
+        held
     }
-    if !(t <= 2.0) {
-        return held;
-    }
-    if !(t >= held) {
-        return held;
-    }
-    t
 }
 
 // How far along the bent path: its first leg ends at 1, its second at 2.
@@ -46,9 +43,9 @@ fn bent(n: usize, w: &mut [f64], tau: f64)
 {
     if tau < 1.0 {
         workspace::each(n, w, 0, Op::Times(tau), 1, 1);
-        return;
+    } else {
+        workspace::each(n, w, 0, Op::PlusTimes(tau - 1.0), 1, 2);
     }
-    workspace::each(n, w, 0, Op::PlusTimes(tau - 1.0), 1, 2);
 }
 
 // c, k and u.
@@ -60,16 +57,17 @@ pub struct Measures {
 }
 
 // Slot 0 takes pb, unless the inverse is refused.
-pub(crate) fn newton(n: usize, w: &mut [f64], g: &[f64], h: &[f64]) -> bool
-    requires { Square n (length h.now) × (length g.now ≡ n) × Roomy n (length w.old) }
-    ensures { Dogleg.newton_in result (slot w.new n 0) ≡ Dogleg.newton n g.now h.now }
+pub(crate) fn newton(problem: &Subproblem, w: &mut [f64]) -> Result<(), Refusal>
+    requires { Roomy problem.now.n (length w.old) }
+    ensures { stands_for result (slot w.new problem.now.n 0) ≡ Dogleg.newton problem.now.n problem.now.gradient.now problem.now.hessian.now }
 {
-    if !inverse::eliminate(n, w, h) {
-        return false;
+    let n = problem.n;
+    if !inverse::eliminate(n, w, problem.hessian) {
+        return Err(Refusal::Pivot);
     }
-    inverse::inverse_times(n, w, 0, g);
+    inverse::inverse_times(n, w, 0, problem.gradient);
     workspace::each(n, w, 0, Op::Times(-1.0), 0, 0);
-    true
+    Ok(())
 }
 
 // Slot 1 takes pu, by the curvature g·H·g; slot 0 stays.
@@ -94,35 +92,30 @@ pub(crate) fn measure(n: usize, w: &mut [f64]) -> Measures
 }
 
 // Slot 0 has pb, and takes the step.
-fn step(n: usize, radius: f64, g: &[f64], h: &[f64], w: &mut [f64])
-    requires { Square n (length h.now) × (length g.now ≡ n) × (3 * n ≤ length w.old) }
-    ensures { slot w.new n 0 ≡ Dogleg.dogleg_step n radius (slot w.old n 0) (Dogleg.unconstrained n g.now h.now) }
+fn step(problem: &Subproblem, w: &mut [f64])
+    requires { 3 * problem.now.n ≤ length w.old }
+    ensures { slot w.new problem.now.n 0
+        ≡ Dogleg.dogleg_step problem.now.n problem.now.radius (slot w.old problem.now.n 0)
+        (Dogleg.unconstrained problem.now.n problem.now.gradient.now problem.now.hessian.now) }
 {
-    if workspace::norm(n, w, 0) <= radius {
+    let n = problem.n;
+    if workspace::norm(n, w, 0) <= problem.radius {
         return;
     }
-    unconstrained(n, w, g, inner::weighted_unchecked(n, g, h, g));
+    let curvature = problem.curvature(problem.gradient);
+    unconstrained(n, w, problem.gradient, curvature);
     let m = measure(n, w);
-    bent(n, w, tau(m.c, m.k, m.u, radius * radius));
+    bent(n, w, tau(m.c, m.k, m.u, problem.radius * problem.radius));
 }
 
-// The kernel for a session, which has made its own checks.
-pub(crate) fn lay(
-    n: usize,
-    radius: f64,
-    g: &[f64],
-    h: &[f64],
-    w: &mut [f64],
-) -> Result<Stepped, Refusal>
-    requires { Square n (length h.now) × (length g.now ≡ n) × Roomy n (length w.old) }
-    ensures { Laid (Dogleg.dogleg n radius g.now h.now) result w.old w.new }
+// The kernel, over a scratch of the right size.
+pub(crate) fn lay(problem: &Subproblem, w: &mut [f64]) -> Result<Stepped, Refusal>
+    requires { Roomy problem.now.n (length w.old) }
+    ensures { Reached (on Dogleg.dogleg problem.now) result w.old w.new }
 {
-    if !newton(n, w, g, h) {
-        vector::clear(w);
-        return Err(Refusal::Pivot);
-    }
-    step(n, radius, g, h, w);
-    kernel::settle(n, w, 0)
+    newton(problem, w)?;
+    step(problem, w);
+    kernel::settle(problem.n, w, 0)
 }
 
 // The kernel for a direct caller.
@@ -137,7 +130,5 @@ pub fn dogleg(
     ensures { Took (called true Dogleg.dogleg n radius gradient.now hessian.now step.old scratch.old)
         result step.old step.new scratch.old scratch.new }
 {
-    // the limit is not looked at
-    let choice = Choice::new(2, 0);
-    choice::direct(choice, n, radius, gradient, hessian, step, scratch)
+    choice::call(Kernel::Dogleg, n, radius, gradient, hessian, step, scratch)
 }

@@ -3,9 +3,9 @@ ghost use Rattle.std.specs.Prelude.{◌≡◌, ◌&&◌, List, [], ◌∷◌, �
 ghost use Rattle.vectors.specs.Vector as Vector;
 ghost use Rattle.vectors.specs.Vector.{zeros};
 ghost use Rattle.vectors.specs.Slots.{slot};
-ghost use Rattle.vectors.specs.Refusal.{all_hold, size, room, judged};
+ghost use Rattle.vectors.specs.Refusal.{all_hold, size, room};
 ghost use Rattle.kernels.specs.Kernel as Kernel;
-ghost use Rattle.kernels.specs.Kernel.{made, handed_out, handed_over, kernel_checks, Laid};
+ghost use Rattle.kernels.specs.Kernel.{made, handed_out, handed_over, bounded, Reached};
 
 use crate::workspace;
 use vectors::refusal::Refusal;
@@ -26,6 +26,13 @@ pub fn positive(x: f64) -> bool
     float::finite(x) && 0.0 < x
 }
 
+// What a session asks of epsilon and the limit, and Steihaug that is called directly.
+pub(crate) fn bounded(epsilon: f64, limit: u64) -> bool
+    ensures { result ≡ bounded epsilon limit }
+{
+    positive(epsilon) && limit <= 10000
+}
+
 // The lengths of a kernel's matrix, gradient, step and scratch.
 pub(crate) fn sized(n: usize, h: usize, g: usize, step: usize, scratch: usize) -> bool
     ensures { result ≡ all_hold (size n ∷ eqb h (n * n) ∷ eqb g n ∷ eqb step n ∷ eqb scratch (room n) ∷ []) }
@@ -33,28 +40,11 @@ pub(crate) fn sized(n: usize, h: usize, g: usize, step: usize, scratch: usize) -
     refusal::shaped(n, h, g, step) && scratch == 2 * (n * n) + 8 * n
 }
 
-// The checks before a kernel that is called directly; of the step and the scratch only the lengths count.
-pub(crate) fn checked(
-    settings: bool,
-    n: usize,
-    radius: f64,
-    g: &[f64],
-    h: &[f64],
-    step: usize,
-    scratch: usize,
-) -> Result<(), Refusal>
-    ensures { (s w : List Float) → length s ≡ step → length w ≡ scratch → result ≡ judged (kernel_checks settings n radius g.now h.now s w) }
-{
-    Refusal::Size.unless(sized(n, h.len(), g.len(), step, scratch))?;
-    Refusal::Setting.unless(positive(radius) && settings)?;
-    Refusal::Entry.unless(vector::both_finite(g, h))?;
-    Ok(())
-}
-
-// The end of every kernel: slot 0 is its step, unless refusal 8 is due.
+// The end of every kernel: slot 0 is its step, unless refusal 8 is due. What a refusal leaves in the scratch is for the
+// kernel's caller to clear.
 pub(crate) fn settle(n: usize, w: &mut [f64], passes: u64) -> Result<Stepped, Refusal>
     requires { n ≤ length w.old }
-    ensures { Laid (handed_out (made passes (slot w.old n 0))) result w.old w.new }
+    ensures { Reached (handed_out (made passes (slot w.old n 0))) result w.old w.new }
 {
     let norm = workspace::norm(n, w, 0);
     settle_by(n, w, passes, norm)
@@ -63,12 +53,9 @@ pub(crate) fn settle(n: usize, w: &mut [f64], passes: u64) -> Result<Stepped, Re
 // The same for a kernel that knows the norm of its step. Where a number of the step is not finite, its norm is not.
 pub(crate) fn settle_by(n: usize, w: &mut [f64], passes: u64, norm: f64) -> Result<Stepped, Refusal>
     requires { (n ≤ length w.old) × (norm ≡ Vector.norm (slot w.old n 0)) }
-    ensures { Laid (handed_out (made passes (slot w.old n 0))) result w.old w.new }
+    ensures { Reached (handed_out (made passes (slot w.old n 0))) result w.old w.new }
 {
-    if !float::finite(norm) {
-        vector::clear(w);
-        return Err(Refusal::Range);
-    }
+    Refusal::Range.unless(float::finite(norm))?;
     vector::clear(&mut w[n..]);
     Ok(Stepped { passes, norm })
 }

@@ -4,10 +4,10 @@
 pub mod cauchypoint;
 pub mod choice;
 pub mod dogleg;
-mod inner;
 pub mod inverse;
 pub mod kernel;
 pub mod steihaug;
+mod subproblem;
 pub mod textbook;
 mod workspace;
 

@@ -1,27 +1,29 @@
 // Steihaug: conjugate gradients as far as the radius
 // (Nocedal and Wright, Numerical Optimization, section 7.1).
 // In the scratch w, p is slot 0, r and then s slot 1, d slot 2, H·d slot 3, and q, or p + d·tau, slot 6.
-ghost use Rattle.std.specs.Prelude.{◌≡◌, ◌&&◌, ◌∷◌, [], map, ◌*◌, ◌≤◌, length};
-ghost use Rattle.float.specs.Numbers.{finite};
+ghost use Rattle.std.specs.Prelude.{◌≡◌, ◌∷◌, [], map, ◌*◌, ◌≤◌, length};
 ghost use Rattle.vectors.specs.Slots.{slot};
-ghost use Rattle.vectors.specs.Refusal.{Square, Roomy, then};
+ghost use Rattle.vectors.specs.Refusal.{Roomy, given};
+ghost use Rattle.kernels.specs.Kernel.{bounded, made, handed_out, Reached, Took, called};
 ghost use Rattle.vectors.specs.Calls.{tells};
-ghost use Rattle.kernels.specs.Kernel.{bounded, made, handed_out, Proper, Laid, Took, called};
+ghost use Rattle.kernels.specs.Subproblem.{on, valued_in, pass_of, run_of};
 ghost use Rattle.kernels.specs.Steihaug as Steihaug;
-ghost use Rattle.kernels.specs.Steihaug.{listed, state_in, Keeps, passed, ran};
+ghost use Rattle.kernels.specs.Steihaug.{listed, root_of, state_in, Keeps, passed, ran, ended};
 
-use crate::choice::Choice;
+use crate::choice::Kernel;
 use crate::kernel::Stepped;
+use crate::subproblem::Subproblem;
 use crate::workspace::Op;
-use crate::{choice, inner, kernel, workspace};
+use crate::{choice, kernel, workspace};
 use vectors::refusal::Refusal;
 use vectors::vector;
 
-// The roots, in document 01's order.
+// The roots, in document 01's order: two, and mostly no third.
 #[derive(Clone, Copy)]
-pub enum Roots {
-    Two(f64, f64),
-    Three(f64, f64, f64),
+pub struct Roots {
+    pub first: f64,
+    pub second: f64,
+    pub third: Option<f64>,
 }
 
 // A root, and the model at p + d·tau.
@@ -31,44 +33,40 @@ pub struct Valued {
     pub model: f64,
 }
 
-// How a pass ended: with p + d·tau, with q, without a usable root, or on to the next with r·r.
+// How a pass that found its root ended: with p + d·tau, with q, or on to the next with r·r.
 #[derive(Clone, Copy)]
 pub enum Turn {
     Boundary,
     Inside,
-    Refused(Refusal),
     WentOn(f64),
 }
 
-// Where the passes ended, and how many had begun: at the limit with p, in slot 0; in a pass with p + d·tau,
-// (a) or (b), or with q, (c), in slot 6; or without a usable root.
+// Where the passes ended, and how many had begun: at the limit with p, in slot 0; or in a pass with p + d·tau,
+// (a) or (b), or with q, (c), in slot 6.
 #[derive(Clone, Copy)]
 pub enum Exit {
     Limit(u64),
     Boundary(u64),
     Inside(u64),
-    Refused(Refusal),
 }
 
-fn both_finite(x: f64, y: f64) -> bool
-    ensures { result ≡ (finite x && finite y) }
-{
-    if !float::finite(x) {
-        return false;
-    }
-    float::finite(y)
-}
-
+#[tactic(auto, unfolding(crate::specs::Steihaug::roots))]
 fn roots_of(a: f64, b: f64, c: f64, delta: f64) -> Roots
     ensures { listed result ≡ Steihaug.roots a b c delta }
 {
     let t = root::root(-a * b + b * delta + c * c);
     let first = -(t + c) / b;
     let second = (t - c) / b;
-    if both_finite(first, second) {
-        return Roots::Two(first, second);
+    let third = if float::finite(first) && float::finite(second) {
+        None
+    } else {
+        Some((delta - a) / (2.0 * c))
+    };
+    Roots {
+        first,
+        second,
+        third,
     }
-    Roots::Three(first, second, (delta - a) / (2.0 * c))
 }
 
 fn roots_at(n: usize, w: &[f64], radius: f64) -> Roots
@@ -81,112 +79,90 @@ fn roots_at(n: usize, w: &[f64], radius: f64) -> Roots
     roots_of(a, b, c, radius * radius)
 }
 
-fn value(n: usize, w: &mut [f64], tau: f64, g: &[f64], h: &[f64]) -> Valued
-    requires { Square n (length h.now) × (length g.now ≡ n) × (8 * n ≤ length w.old) }
-    ensures { (result ≡ Steihaug.valued n g.now h.now (slot w.old n 0) (slot w.old n 2) tau)
-        × Keeps n w.old w.new }
+fn value(problem: &Subproblem, w: &mut [f64], tau: f64) -> Valued
+    requires { 8 * problem.now.n ≤ length w.old }
+    ensures { (result ≡ valued_in problem.now w.old tau) × Keeps problem.now.n w.old w.new }
 {
-    workspace::each(n, w, 6, Op::PlusTimes(tau), 0, 2);
-    let x = workspace::part(n, w, 6);
-    Valued {
-        tau,
-        model: vector::dot_any(g, x) + 0.5 * inner::weighted_unchecked(n, x, h, x),
-    }
+    workspace::each(problem.n, w, 6, Op::PlusTimes(tau), 0, 2);
+    let model = problem.model(workspace::part(problem.n, w, 6));
+    Valued { tau, model }
 }
 
 // The one held stays on a tie.
 fn lesser(held: Valued, next: Valued) -> Valued
     ensures { result ≡ Steihaug.lesser held next }
 {
-    if next.model < held.model {
-        return next;
-    }
-    held
+    if next.model < held.model { next } else { held }
 }
 
+#[tactic(auto, unfolding(crate::specs::Steihaug::by_model))]
 fn least(a: Valued, b: Valued, c: Valued) -> Result<f64, Refusal>
     ensures { tells result ≡ Steihaug.by_model (a ∷ b ∷ c ∷ []) }
 {
-    if float::is_nan(a.model) {
+    if float::is_nan(a.model) || float::is_nan(b.model) || float::is_nan(c.model) {
         return Err(Refusal::Root);
     }
-    if float::is_nan(b.model) {
-        return Err(Refusal::Root);
-    }
-    if float::is_nan(c.model) {
-        return Err(Refusal::Root);
-    }
-    let found = lesser(lesser(a, b), c);
-    Ok(found.tau)
+    Ok(lesser(lesser(a, b), c).tau)
 }
 
 // Of two roots the second stands for the third as well: it can't take its own place.
-fn by_model(n: usize, w: &mut [f64], roots: Roots, g: &[f64], h: &[f64]) -> Result<f64, Refusal>
-    requires { Square n (length h.now) × (length g.now ≡ n) × (8 * n ≤ length w.old) }
-    ensures { (tells result ≡ Steihaug.by_model (map (Steihaug.valued n g.now h.now (slot w.old n 0) (slot w.old n 2)) (listed roots)))
-        × Keeps n w.old w.new }
+fn by_model(problem: &Subproblem, w: &mut [f64], roots: Roots) -> Result<f64, Refusal>
+    requires { 8 * problem.now.n ≤ length w.old }
+    ensures { (tells result ≡ Steihaug.by_model (map (valued_in problem.now w.old) (listed roots)))
+        × Keeps problem.now.n w.old w.new }
 {
-    match roots {
-        Roots::Two(first, second) => {
-            let a = value(n, w, first, g, h);
-            let b = value(n, w, second, g, h);
-            least(a, b, b)
-        }
-        Roots::Three(first, second, third) => {
-            let a = value(n, w, first, g, h);
-            let b = value(n, w, second, g, h);
-            let c = value(n, w, third, g, h);
+    let a = value(problem, w, roots.first);
+    let b = value(problem, w, roots.second);
+    match roots.third {
+        None => least(a, b, b),
+        Some(third) => {
+            let c = value(problem, w, third);
             least(a, b, c)
         }
     }
 }
 
 // The one held stays on a tie.
-fn larger(held: Result<f64, Refusal>, t: f64) -> Result<f64, Refusal>
-    ensures { tells result ≡ Steihaug.larger (tells held) t }
+fn larger(held: Option<f64>, t: f64) -> Option<f64>
+    ensures { root_of result ≡ Steihaug.larger (root_of held) t }
 {
-    match held {
-        Ok(x) => {
-            if x < t {
-                return Ok(t);
-            }
-            Ok(x)
-        }
-        Err(r) => {
-            if 0.0 <= t {
-                return Ok(t);
-            }
-            Err(r)
-        }
-    }
+    let takes = match held {
+        Some(x) => x < t,
+        None => 0.0 <= t,
+    };
+    if takes { Some(t) } else { held }
 }
 
+#[tactic(auto, unfolding(crate::specs::Steihaug::forward))]
 fn forward(roots: Roots) -> Result<f64, Refusal>
     ensures { tells result ≡ Steihaug.forward (listed roots) }
 {
-    let none = Err(Refusal::Root);
-    match roots {
-        Roots::Two(first, second) => larger(larger(none, first), second),
-        Roots::Three(first, second, third) => larger(larger(larger(none, first), second), third),
-    }
+    let two = larger(larger(None, roots.first), roots.second);
+    let all = match roots.third {
+        None => two,
+        Some(third) => larger(two, third),
+    };
+    all.ok_or(Refusal::Root)
 }
 
 // p + d·tau, into slot 6.
-fn stop_at(n: usize, w: &mut [f64], tau: Result<f64, Refusal>) -> Turn
+fn stop_at(n: usize, w: &mut [f64], tau: f64) -> Turn
     requires { 8 * n ≤ length w.old }
-    ensures { passed result n w.new ≡ Steihaug.stops_at n (slot w.old n 0) (slot w.old n 2) (tells tau) }
+    ensures { passed (Ok result) n w.new ≡ Steihaug.stops_at n (slot w.old n 0) (slot w.old n 2) (given tau) }
 {
-    match tau {
-        Ok(t) => {
-            workspace::each(n, w, 6, Op::PlusTimes(t), 0, 2);
-            Turn::Boundary
-        }
-        Err(r) => Turn::Refused(r),
-    }
+    workspace::each(n, w, 6, Op::PlusTimes(tau), 0, 2);
+    Turn::Boundary
 }
 
 // Past the first test: H·d is in slot 3.
-fn straight(n: usize, w: &mut [f64], radius: f64, small: f64, rtr: f64, alpha: f64) -> Turn
+fn straight(
+    n: usize,
+    w: &mut [f64],
+    radius: f64,
+    small: f64,
+    rtr: f64,
+    alpha: f64,
+) -> Result<Turn, Refusal>
     requires { 8 * n ≤ length w.old }
     ensures { passed result n w.new ≡ Steihaug.straight n radius small (state_in w.old n rtr) (slot w.old n 3) alpha }
 {
@@ -194,50 +170,48 @@ fn straight(n: usize, w: &mut [f64], radius: f64, small: f64, rtr: f64, alpha: f
     // equality is already outside
     if workspace::norm(n, w, 6) >= radius {
         let roots = roots_at(n, w, radius);
-        let tau = forward(roots);
-        return stop_at(n, w, tau);
+        let tau = forward(roots)?;
+        return Ok(stop_at(n, w, tau));
     }
     workspace::update(n, w, 1, Op::PlusTimes(alpha), 3);
     if workspace::norm(n, w, 1) < small {
-        return Turn::Inside;
+        return Ok(Turn::Inside);
     }
     // on to the next pass, from q and s
     let ss = workspace::dot(n, w, 1, 1);
     let beta = ss / rtr;
     workspace::each(n, w, 2, Op::TurnedPlusTimes(beta), 1, 2);
     workspace::each(n, w, 0, Op::Same, 6, 6);
-    Turn::WentOn(ss)
+    Ok(Turn::WentOn(ss))
 }
 
 // `small` is epsilon·‖g‖.
-fn pass(n: usize, w: &mut [f64], radius: f64, small: f64, rtr: f64, g: &[f64], h: &[f64]) -> Turn
-    requires { Square n (length h.now) × (length g.now ≡ n) × (8 * n ≤ length w.old) }
-    ensures { passed result n w.new ≡ Steihaug.pass n radius small g.now h.now (state_in w.old n rtr) }
+fn pass(problem: &Subproblem, w: &mut [f64], small: f64, rtr: f64) -> Result<Turn, Refusal>
+    requires { 8 * problem.now.n ≤ length w.old }
+    ensures { passed result problem.now.n w.new ≡ pass_of problem.now small (state_in w.old problem.now.n rtr) }
 {
-    workspace::times(n, w, 3, h, 2);
+    let n = problem.n;
+    workspace::times(n, w, 3, problem.hessian, 2);
     let dhd = workspace::dot(n, w, 2, 3);
     // no curvature, or a negative one, along d
     if dhd <= 0.0 {
-        let roots = roots_at(n, w, radius);
-        let tau = by_model(n, w, roots, g, h);
-        return stop_at(n, w, tau);
+        let roots = roots_at(n, w, problem.radius);
+        let tau = by_model(problem, w, roots)?;
+        return Ok(stop_at(n, w, tau));
     }
-    straight(n, w, radius, small, rtr, rtr / dhd)
+    straight(n, w, problem.radius, small, rtr, rtr / dhd)
 }
 
 // The passes, as many as begin, from what `start` left in w.
 fn run(
-    n: usize,
+    problem: &Subproblem,
     w: &mut [f64],
-    radius: f64,
     small: f64,
     first: f64,
     limit: u64,
-    g: &[f64],
-    h: &[f64],
-) -> Exit
-    requires { Square n (length h.now) × (length g.now ≡ n) × (8 * n ≤ length w.old) }
-    ensures { ran result n w.new ≡ Steihaug.run n radius small g.now h.now limit 0 (state_in w.old n first) }
+) -> Result<Exit, Refusal>
+    requires { 8 * problem.now.n ≤ length w.old }
+    ensures { ran result problem.now.n w.new ≡ run_of problem.now small limit 0 (state_in w.old problem.now.n first) }
 {
     let mut rtr = first;
     let mut passes = 0;
@@ -245,18 +219,15 @@ fn run(
         if passes >= limit {
             break Exit::Limit(passes);
         }
-        let turn = pass(n, w, radius, small, rtr, g, h);
+        let turn = pass(problem, w, small, rtr)?;
         passes += 1;
         match turn {
             Turn::Boundary => break Exit::Boundary(passes),
             Turn::Inside => break Exit::Inside(passes),
-            Turn::Refused(r) => break Exit::Refused(r),
-            Turn::WentOn(next) => {
-                rtr = next;
-            }
+            Turn::WentOn(next) => rtr = next,
         }
     };
-    end
+    Ok(end)
 }
 
 // p = 0, r = g, d = r·(−1); r·r is returned.
@@ -273,7 +244,7 @@ fn start(n: usize, w: &mut [f64], g: &[f64]) -> f64
 // The point that a pass chose, in slot 6, is the step.
 fn settle_chosen(n: usize, w: &mut [f64], passes: u64) -> Result<Stepped, Refusal>
     requires { 8 * n ≤ length w.old }
-    ensures { Laid (handed_out (made passes (slot w.old n 6))) result w.old w.new }
+    ensures { Reached (handed_out (made passes (slot w.old n 6))) result w.old w.new }
 {
     workspace::each(n, w, 0, Op::Same, 6, 6);
     kernel::settle(n, w, passes)
@@ -281,40 +252,33 @@ fn settle_chosen(n: usize, w: &mut [f64], passes: u64) -> Result<Stepped, Refusa
 
 // The point at which the passes ended is the step.
 fn settle(n: usize, w: &mut [f64], end: Exit) -> Result<Stepped, Refusal>
-    requires { (8 * n ≤ length w.old) × Proper n (then handed_out (ran end n w.old)) }
-    ensures { Laid (then handed_out (ran end n w.old)) result w.old w.new }
+    requires { 8 * n ≤ length w.old }
+    ensures { Reached (handed_out (ended end n w.old)) result w.old w.new }
 {
     match end {
         Exit::Limit(passes) => kernel::settle(n, w, passes),
         Exit::Boundary(passes) => settle_chosen(n, w, passes),
         Exit::Inside(passes) => settle_chosen(n, w, passes),
-        Exit::Refused(r) => {
-            vector::clear(w);
-            Err(r)
-        }
     }
 }
 
-// The kernel for a session, which has made its own checks.
+// The kernel, over a scratch of the right size.
 pub(crate) fn lay(
-    n: usize,
-    radius: f64,
+    problem: &Subproblem,
     epsilon: f64,
     limit: u64,
-    g: &[f64],
-    h: &[f64],
     w: &mut [f64],
 ) -> Result<Stepped, Refusal>
-    requires { Square n (length h.now) × (length g.now ≡ n) × Roomy n (length w.old) }
-    ensures { Laid (Steihaug.steihaug epsilon limit n radius g.now h.now) result w.old w.new }
+    requires { Roomy problem.now.n (length w.old) }
+    ensures { Reached (on (Steihaug.steihaug epsilon limit) problem.now) result w.old w.new }
 {
-    let norm = vector::norm_any(g);
-    let rtr = start(n, w, g);
+    let norm = vector::norm_any(problem.gradient);
+    let rtr = start(problem.n, w, problem.gradient);
     if norm < epsilon {
-        return kernel::settle(n, w, 0);
+        return kernel::settle(problem.n, w, 0);
     }
-    let end = run(n, w, radius, epsilon * norm, rtr, limit, g, h);
-    settle(n, w, end)
+    let end = run(problem, w, epsilon * norm, rtr, limit)?;
+    settle(problem.n, w, end)
 }
 
 // The kernel for a direct caller.
@@ -331,6 +295,6 @@ pub fn steihaug(
     ensures { Took (called (bounded epsilon limit) (Steihaug.steihaug epsilon limit) n radius gradient.now hessian.now step.old scratch.old)
         result step.old step.new scratch.old scratch.new }
 {
-    let choice = Choice::of(3, epsilon, limit);
-    choice::direct(choice, n, radius, gradient, hessian, step, scratch)
+    let kernel = Kernel::Steihaug { epsilon, limit };
+    choice::call(kernel, n, radius, gradient, hessian, step, scratch)
 }

@@ -2,15 +2,17 @@
 // (Nocedal and Wright, Numerical Optimization, section 4.1).
 ghost use Rattle.std.specs.Prelude.{◌≡◌, true, ◌*◌, ◌≤◌, length};
 ghost use Rattle.vectors.specs.Slots.{slot};
-ghost use Rattle.vectors.specs.Refusal.{Square, Roomy};
-ghost use Rattle.kernels.specs.Kernel.{Laid, Took, called};
+ghost use Rattle.vectors.specs.Refusal.{Roomy};
+ghost use Rattle.kernels.specs.Kernel.{Reached, Took, called};
+ghost use Rattle.kernels.specs.Subproblem.{on};
 ghost use Rattle.kernels.specs.Dogleg as Dogleg;
 ghost use Rattle.kernels.specs.Textbook as Textbook;
 
-use crate::choice::Choice;
+use crate::choice::Kernel;
 use crate::kernel::Stepped;
+use crate::subproblem::Subproblem;
 use crate::workspace::Op;
-use crate::{cauchypoint, choice, dogleg, inner, kernel, workspace};
+use crate::{cauchypoint, choice, dogleg, kernel, workspace};
 use vectors::refusal::Refusal;
 use vectors::vector;
 
@@ -22,48 +24,42 @@ fn along(c: f64, k: f64, u: f64, delta_squared: f64) -> f64
 }
 
 // Slot 0 has pb, which is outside, and takes the step.
-fn outside(n: usize, radius: f64, curvature: f64, g: &[f64], w: &mut [f64])
-    requires { (length g.now ≡ n) × (3 * n ≤ length w.old) }
-    ensures { slot w.new n 0 ≡ Textbook.legs n radius (slot w.old n 0) (Dogleg.towards n g.now curvature) }
+fn outside(problem: &Subproblem, curvature: f64, w: &mut [f64])
+    requires { 3 * problem.now.n ≤ length w.old }
+    ensures { slot w.new problem.now.n 0
+        ≡ Textbook.legs problem.now.n problem.now.radius (slot w.old problem.now.n 0)
+        (Dogleg.towards problem.now.n problem.now.gradient.now curvature) }
 {
-    dogleg::unconstrained(n, w, g, curvature);
+    let n = problem.n;
+    dogleg::unconstrained(n, w, problem.gradient, curvature);
     let norm = workspace::norm(n, w, 1);
     // equality ends on the first leg: its factor is 1 there
-    if norm >= radius {
-        workspace::each(n, w, 0, Op::Times(radius / norm), 1, 1);
+    if norm >= problem.radius {
+        workspace::each(n, w, 0, Op::Times(problem.radius / norm), 1, 1);
         return;
     }
     let m = dogleg::measure(n, w);
-    let far = along(m.c, m.k, m.u, radius * radius);
+    let far = along(m.c, m.k, m.u, problem.radius * problem.radius);
     workspace::each(n, w, 0, Op::PlusTimes(far), 1, 2);
 }
 
-// The kernel for a session, which has made its own checks.
-pub(crate) fn lay(
-    n: usize,
-    radius: f64,
-    g: &[f64],
-    h: &[f64],
-    w: &mut [f64],
-) -> Result<Stepped, Refusal>
-    requires { Square n (length h.now) × (length g.now ≡ n) × Roomy n (length w.old) }
-    ensures { Laid (Textbook.textbook_dogleg n radius g.now h.now) result w.old w.new }
+// The kernel, over a scratch of the right size.
+pub(crate) fn lay(problem: &Subproblem, w: &mut [f64]) -> Result<Stepped, Refusal>
+    requires { Roomy problem.now.n (length w.old) }
+    ensures { Reached (on Textbook.textbook_dogleg problem.now) result w.old w.new }
 {
-    let curvature = inner::weighted_unchecked(n, g, h, g);
+    let curvature = problem.curvature(problem.gradient);
     // a NaN is not above 0
     if !(0.0 < curvature) {
-        return cauchypoint::lay_by(n, radius, curvature, vector::norm_any(g), g, w);
+        return cauchypoint::lay_by(problem, curvature, vector::norm_any(problem.gradient), w);
     }
-    if !dogleg::newton(n, w, g, h) {
-        vector::clear(w);
-        return Err(Refusal::Pivot);
+    dogleg::newton(problem, w)?;
+    let norm = workspace::norm(problem.n, w, 0);
+    if norm <= problem.radius {
+        return kernel::settle_by(problem.n, w, 0, norm);
     }
-    let norm = workspace::norm(n, w, 0);
-    if norm <= radius {
-        return kernel::settle_by(n, w, 0, norm);
-    }
-    outside(n, radius, curvature, g, w);
-    kernel::settle(n, w, 0)
+    outside(problem, curvature, w);
+    kernel::settle(problem.n, w, 0)
 }
 
 // The kernel for a direct caller.
@@ -78,7 +74,13 @@ pub fn textbook_dogleg(
     ensures { Took (called true Textbook.textbook_dogleg n radius gradient.now hessian.now step.old scratch.old)
         result step.old step.new scratch.old scratch.new }
 {
-    // the limit is not looked at
-    let choice = Choice::new(2, 0).with_dogleg(2);
-    choice::direct(choice, n, radius, gradient, hessian, step, scratch)
+    choice::call(
+        Kernel::Textbook,
+        n,
+        radius,
+        gradient,
+        hessian,
+        step,
+        scratch,
+    )
 }

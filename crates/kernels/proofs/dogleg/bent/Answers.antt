@@ -5,5 +5,5 @@ use Rattle.kernels.proofs.dogleg.bent.Goals as goal
 pub returns-then-tau : goal.returns-then-tau
 returns-then-tau c = bent_first _ _ _ _ c.if-tau.true c.each.ensures
 
-pub returns : goal.returns
-returns c = bent_second _ _ _ _ c.if-tau.false c.each-2.ensures
+pub returns-else-tau : goal.returns-else-tau
+returns-else-tau c = bent_second _ _ _ _ c.if-tau.false c.each-else-tau.ensures

@@ -5,4 +5,4 @@ use Rattle.kernels.proofs.steihaug.settle_chosen.Goals as goal
 
 pub returns : goal.returns
 returns c =
-    moved_laid _ _ _ _ _ _ (search rules) (put_same _ _ _ 0 6 6 (search rules) c.each.ensures) c.each.auto.w c.settle.ensures
+    moved_laid _ _ _ _ _ _ (put_same _ _ _ 0 6 6 (search rules) c.each.ensures) c.each.auto.w c.settle.ensures

@@ -1,8 +1,10 @@
 -- `kernels::steihaug::value` meets its contract. Assumes nothing.
-use Rattle.kernels.proofs.Passes.{model_here, valued_here}
+use mathlib.Core.Path.{◌∙◌, ap}
+use Rattle.kernels.specs.Steihaug.{model}
+use Rattle.kernels.proofs.Passes.{valued_here}
 use Rattle.kernels.proofs.steihaug.value.Goals as goal
 
 pub returns : goal.returns
 returns c =
     let put = c.each.ensures in
-    (valued_here _ _ _ _ _ _ _ put (model_here _ _ _ _ _ _ _ c.part-x.ensures.0 c.dot_any.ensures c.weighted_unchecked.ensures), (put 0, put 2))
+    (valued_here _ _ _ _ _ _ _ put (c.model-model.ensures ∙ ap (model _ _ _) c.part.ensures.0), (put 0, put 2))

@@ -1,7 +1,0 @@
--- `kernels::dogleg::dogleg` meets its contract. Assumes nothing.
-use Rattle.kernels.specs.Choice.{among, known, asked, kernel}
-use Rattle.kernels.proofs.dogleg.dogleg.Goals as goal
-
-pub returns : goal.returns
-unfolding among known asked kernel
-returns c = rw c.new-choice.ensures at c.direct.ensures
