@@ -9,9 +9,10 @@ use lib.ListN.{length}
 use lib.Ieee.{Float}
 use Rattle.float.specs.Constants.{nought}
 use Rattle.vectors.specs.Vector.{zeros}
-use Rattle.vectors.specs.Refusal.{Answer, refused, given, Check, unless, judged, then, untouched_by, scratch_after}
+use Rattle.vectors.specs.Refusal.{Answer, refused, given, Check, unless, judged, checked, then, untouched_by, scratch_after}
+use Rattle.offer.specs.State.{result_of}
 use Rattle.vectors.specs.declared.refusal.Refusal.{Refusal}
-use Rattle.vectors.specs.declared.refusal.Verdict.TheVariants.{Passed, Failed}
+use Rattle.std.specs.Prelude.{Result, Ok, Err}
 use Rattle.vectors.proofs.Vectors.{length_tab}
 
 -- no check of the list applies
@@ -20,11 +21,11 @@ None [] = Unit {0}
 None (c ∷ cs) = T (not c.applies) × None cs
 
 -- none applies where the verdict of the code is that all passed
-pub passed_none : (cs : List Check) → judged cs ≡ Passed → None cs
+pub passed_none : (cs : List Check) → judged cs ≡ Ok tt → None cs
 passed_none [] e = tt
 passed_none (c ∷ cs) e = go c.applies e (passed_none cs)
   where
-    go : (b : Bool) → cond b (Failed c.refusal) (judged cs) ≡ Passed → (judged cs ≡ Passed → None cs) → T (not b) × None cs
+    go : (b : Bool) → cond b (Err c.refusal) (judged cs) ≡ Ok tt → (judged cs ≡ Ok tt → None cs) → T (not b) × None cs
     go true e f = let z : ◌≡◌ {A = ℕ} 0 1 = cc in absurd (omega arith)
     go false e f = (tt, f e)
 
@@ -92,3 +93,18 @@ zeros_length n = length_tab n (λ i. nought)
 pub scratch_length : {A : Type 0} (a : Answer A) (v : List Float) → length (scratch_after a v) ≡ length v
 scratch_length (refused r) v = cond_elim (λ (x : List Float). length x ≡ length v) (untouched_by r) {x = v} {y = zeros (length v)} refl (zeros_length (length v))
 scratch_length (given x) v = zeros_length (length v)
+
+-- ---- what the code makes of an answer
+
+-- what was asked by `?` was wrong
+pub was_wrong : (r : Refusal) (b : Bool) {e : Refusal} → ◌≡◌ {A = Result (Unit {0}) Refusal} (Err e) (checked r b) → (b ≡ false) × (e ≡ r)
+was_wrong r true e = let z : ◌≡◌ {A = ℕ} 0 1 = cc in absurd (omega arith)
+was_wrong r false e = (refl, cc)
+
+pub is_refused : {A : Type 0} (a : Answer A) {r : Refusal} → Err r ≡ result_of a → a ≡ refused r
+is_refused (refused x) e = cc
+is_refused (given x) e = let z : ◌≡◌ {A = ℕ} 0 1 = cc in absurd (omega arith)
+
+pub is_given : {A : Type 0} (a : Answer A) {x : A} → Ok x ≡ result_of a → a ≡ given x
+is_given (refused x) e = let z : ◌≡◌ {A = ℕ} 0 1 = cc in absurd (omega arith)
+is_given (given x) e = cc

@@ -3,3 +3,4 @@ pub mod Counts
 pub mod Lengths
 pub mod Offers
 pub mod Runs
+pub mod Sessions

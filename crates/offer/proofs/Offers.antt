@@ -10,6 +10,7 @@ use lib.Seq.{take-take, length-take-le}
 use lib.Ieee.{Float, eq}
 use lib.Ieee.Bits.{is_true}
 use borrow.Author.Tests.{eq-eqb}
+use Rattle.std.specs.Prelude.{Result, Ok, Err}
 use Rattle.float.specs.Constants.{nought}
 use Rattle.vectors.specs.Vector.{plus, zeros, all_finite, norm}
 use Rattle.vectors.specs.Slots.{slot, Puts}
@@ -18,10 +19,7 @@ use Rattle.kernels.specs.Kernel.{Made, made, Proper, Laid}
 use Rattle.kernels.specs.Choice.{known, kernel, door}
 use Rattle.vectors.specs.declared.refusal.Refusal.{Refusal}
 use Rattle.vectors.specs.declared.refusal.Refusal.TheVariants.{Size, Setting, Radius, Range, Hidden}
-use Rattle.vectors.specs.declared.refusal.Verdict.{Verdict}
-use Rattle.vectors.specs.declared.refusal.Verdict.TheVariants.{Passed, Failed}
 use Rattle.kernels.specs.declared.kernel.Stepped.{Stepped}
-use Rattle.kernels.specs.declared.kernel.Stepped.TheVariants as stepped
 use Rattle.vectors.proofs.Slots.{length_slot}
 use Rattle.vectors.proofs.Sizes.{size_test}
 use Rattle.kernels.proofs.Choices.{kernel_proper}
@@ -30,7 +28,6 @@ use Rattle.offer.specs.Offer.{all_sized, proposal_checks, Offer, offered, offer,
 use Rattle.offer.specs.Calls.{replaced, offering, measured, Offers}
 use Rattle.offer.specs.declared.Asked.{Asked}
 use Rattle.offer.specs.declared.Offered.{Offered}
-use Rattle.offer.specs.declared.Offered.TheVariants.{Refused}
 use Rattle.offer.proofs.Lengths.{Lent, lent_true, copied}
 use Rattle.offer.proofs.Checks.{None, passed_none, unless_elim, unless_same, not_not}
 
@@ -66,22 +63,22 @@ step_copied n w w₁ v step step' same l first room at-step a =
 -- the trial was laid beside it
 module _ (n passes : ℕ) (point g H step trial w w₁ : List Float) (laid : Puts w n 1 (plus n (slot w n 0) point) w₁) (l : length w₁ ≡ length w) where
   module _ (u w' : List Float) (is : u ≡ slot w₁ n 1) (z : w' ≡ zeros (length w₁)) where
-    pub refuses : all_finite u ≡ false → Offers n g H (offer n point (made passes (slot w n 0))) (Refused Range) step trial w step trial w'
+    pub refuses : all_finite u ≡ false → Offers n g H (offer n point (made passes (slot w n 0))) (Err Range) step trial w step trial w'
     unfolding offer
     refuses t =
         let bad : all_finite (plus n (slot w n 0) point) ≡ false = sym (ap all_finite (is ∙ laid 1)) ∙ t in
         rw bad (record { says = refl; leaves_step = refl; leaves_trial = refl; leaves_scratch = z ∙ ap zeros l })
 
-    pub hands_out : (v₀ v₁ step' trial' : List Float) (r : Offered) → all_finite u ≡ true → v₀ ≡ slot w₁ n 0 → v₁ ≡ slot w₁ n 1 → n + n ≤ length w → length step ≡ n → length trial ≡ n
-        → step' ≡ replaced v₀ step → trial' ≡ replaced v₁ trial → r ≡ measured n g H passes step'
-        → Offers n g H (offer n point (made passes (slot w n 0))) r step trial w step' trial' w'
+    pub hands_out : (v₀ v₁ step' trial' : List Float) (o : Offered) → all_finite u ≡ true → v₀ ≡ slot w₁ n 0 → v₁ ≡ slot w₁ n 1 → n + n ≤ length w → length step ≡ n → length trial ≡ n
+        → step' ≡ replaced v₀ step → trial' ≡ replaced v₁ trial → o ≡ measured n g H passes step'
+        → Offers n g H (offer n point (made passes (slot w n 0))) (Ok o) step trial w step' trial' w'
     unfolding offer
-    hands_out v₀ v₁ step' trial' r t first second room at-step at-trial a b says =
+    hands_out v₀ v₁ step' trial' o t first second room at-step at-trial a b says =
         let good : all_finite (plus n (slot w n 0) point) ≡ true = sym (ap all_finite (is ∙ laid 1)) ∙ t in
         let long₁ : length v₁ ≡ n = ap length second ∙ length_slot w₁ n 1 (omega arith) in
         let stepped : step' ≡ slot w n 0 = step_copied n w w₁ v₀ step step' (laid 0) l first room at-step a in
         rw good (record {
-          says = says ∙ ap (measured n g H passes) stepped;
+          says = ap Ok (says ∙ ap (measured n g H passes) stepped);
           leaves_step = stepped;
           leaves_trial = b ∙ copied v₁ trial (at-trial ∙ sym long₁) ∙ second ∙ laid 1;
           leaves_scratch = z ∙ ap zeros l;
@@ -138,58 +135,60 @@ module _ (asked : Asked) (n : ℕ) (point g H step trial w : List Float) where
   unfolding offering
   offered_elim P bad good = unless_elim P checks (unless (step_checks asked.allowance asked.state) (then (offer n point) opened)) bad (λ none. good (sizes_lent none) (unless (step_checks asked.allowance asked.state) (then (offer n point) opened)))
 
-  -- v is the code's verdict on the checks
-  module _ (v : Verdict) (judges : v ≡ judged checks) where
-    pub no_checks : (r : Refusal) → v ≡ Failed r → Offers n g H (offering asked n point g H step trial w) (Refused r) step trial w step trial w
+  pub no_checks : (r : Refusal) → judged checks ≡ Err r → Offers n g H (offering asked n point g H step trial w) (Err r) step trial w step trial w
+  unfolding offering
+  no_checks r e =
+      rw (unless_failed checks (unless (step_checks asked.allowance asked.state) (then (offer n point) opened)) r e)
+      (record { says = refl; leaves_step = refl; leaves_trial = refl; leaves_scratch = rw (early checks r (refl, (refl, (refl, (refl, tt)))) e) })
+
+  module _ (e : judged checks ≡ Ok tt) where
+    pub lent : Lent n (length point) (length g) (length H) (length step) (length trial) (length w)
+    lent = sizes_lent (passed_none checks e)
+
+    checked : offering asked n point g H step trial w ≡ unless (step_checks asked.allowance asked.state) (then (offer n point) opened)
     unfolding offering
-    no_checks r e =
-        rw (unless_failed checks (unless (step_checks asked.allowance asked.state) (then (offer n point) opened)) r (sym judges ∙ e))
-        (record { says = refl; leaves_step = refl; leaves_trial = refl; leaves_scratch = rw (early checks r (refl, (refl, (refl, (refl, tt)))) (sym judges ∙ e)) })
+    checked = unless_passed checks _ e
 
-    module _ (e : v ≡ Passed) where
-      pub lent : Lent n (length point) (length g) (length H) (length step) (length trial) (length w)
-      lent = sizes_lent (passed_none checks (sym judges ∙ e))
+    pub no_radius : eq radius nought ≡ true → Offers n g H (offering asked n point g H step trial w) (Err Radius) step trial w step trial w
+    no_radius z = rw (checked, z) (record { says = refl; leaves_step = refl; leaves_trial = refl; leaves_scratch = refl })
 
-      checked : offering asked n point g H step trial w ≡ unless (step_checks asked.allowance asked.state) (then (offer n point) opened)
-      unfolding offering
-      checked = unless_passed checks _ (sym judges ∙ e)
+    pub too_hidden : eq radius nought ≡ false → eqb asked.state.count asked.allowance ≡ true → Offers n g H (offering asked n point g H step trial w) (Err Hidden) step trial w step trial w
+    too_hidden far z = rw (checked, far, z) (record { says = refl; leaves_step = refl; leaves_trial = refl; leaves_scratch = refl })
 
-      pub no_radius : eq radius nought ≡ true → Offers n g H (offering asked n point g H step trial w) (Refused Radius) step trial w step trial w
-      no_radius z = rw (checked, z) (record { says = refl; leaves_step = refl; leaves_trial = refl; leaves_scratch = refl })
+    module _ (far : eq radius nought ≡ false) (shown : eqb asked.state.count asked.allowance ≡ false) (w₁ : List Float) where
+      pub no_step : (r : Refusal) → Laid opened (Err r) w w₁ → Offers n g H (offering asked n point g H step trial w) (Err r) step trial w step trial w₁
+      no_step r laid = rw (checked, far, shown) (go opened laid) where
+        go : (a : Answer Made) → Laid a (Err r) w w₁ → Offers n g H (then (offer n point) a) (Err r) step trial w step trial w₁
+        go (refused x) h = let same : r ≡ x = (let says : ◌≡◌ {A = Result Stepped Refusal} (Err r) (Err x) = h.says in cc) in record { says = ap Err same; leaves_step = refl; leaves_trial = refl; leaves_scratch = h.lays }
+        go (given m) h = absurd (let says : ◌≡◌ {A = Result Stepped Refusal} (Err r) (Ok (record { passes = m.passes; norm = norm m.step })) = h.says in let z : ◌≡◌ {A = ℕ} 0 1 = cc in omega arith)
 
-      pub too_hidden : eq radius nought ≡ false → eqb asked.state.count asked.allowance ≡ true → Offers n g H (offering asked n point g H step trial w) (Refused Hidden) step trial w step trial w
-      too_hidden far z = rw (checked, far, z) (record { says = refl; leaves_step = refl; leaves_trial = refl; leaves_scratch = refl })
+      -- a step was laid out
+      module _ (found : Stepped) (laid : Laid opened (Ok found) w w₁) where
+        step_found : (m : Made) → Laid (given m) (Ok found) w w₁ → found ≡ record { passes = m.passes; norm = norm m.step }
+        step_found m h = let says : ◌≡◌ {A = Result Stepped Refusal} (Ok found) (Ok (record { passes = m.passes; norm = norm m.step })) = h.says in cc
 
-      module _ (far : eq radius nought ≡ false) (shown : eqb asked.state.count asked.allowance ≡ false) (found : Stepped) (w₁ : List Float) (laid : Laid opened found w w₁) where
-        pub no_step : (r : Refusal) → found ≡ stepped.Refused r
-            → Offers n g H (offering asked n point g H step trial w) (Refused r) step trial w step trial w₁
-        no_step r f = rw (checked, far, shown) (go opened laid) where
-          go : (a : Answer Made) → Laid a found w w₁ → Offers n g H (then (offer n point) a) (Refused r) step trial w step trial w₁
-          go (refused x) h = let same : r ≡ x = (let both : stepped.Refused r ≡ stepped.Refused x = sym f ∙ h.says in cc) in record { says = ap Refused same; leaves_step = refl; leaves_trial = refl; leaves_scratch = h.lays }
-          go (given m) h = absurd (let both : stepped.Refused r ≡ stepped.In m.passes (norm m.step) = sym f ∙ h.says in let z : ◌≡◌ {A = ℕ} 0 1 = cc in omega arith)
+        none_found : {A : Type 0} (x : Refusal) → Laid (refused x) (Ok found) w w₁ → A
+        none_found x h = absurd (let says : ◌≡◌ {A = Result Stepped Refusal} (Ok found) (Err x) = h.says in let z : ◌≡◌ {A = ℕ} 0 1 = cc in omega arith)
 
-        -- the step, in what is used of the scratch
-        first_laid : (m : Made) → Laid (given m) found w w₁ → length m.step ≡ n → slot (take (n + n) w₁) n 0 ≡ m.step
+        -- it stands in what is used of the scratch
+        first_laid : (m : Made) → Laid (given m) (Ok found) w w₁ → length m.step ≡ n → slot (take (n + n) w₁) n 0 ≡ m.step
         first_laid m h size = slot_part w₁ n ∙ ap (λ (v : List Float). slot v n 0) h.lays ∙ slot_laid m.step _ n size
 
         -- and what the kernel said is its norm
-        pub norm_laid : (passes : ℕ) (long : Float) → found ≡ stepped.In passes long → long ≡ norm (slot (take (n + n) w₁) n 0)
-        norm_laid passes long f = go opened laid door_long where
-          go : (a : Answer Made) → Laid a found w w₁ → ((m : Made) → a ≡ given m → length m.step ≡ n) → long ≡ norm (slot (take (n + n) w₁) n 0)
-          go (refused x) h sized = absurd (let both : stepped.In passes long ≡ stepped.Refused x = sym f ∙ h.says in let z : ◌≡◌ {A = ℕ} 0 1 = cc in omega arith)
-          go (given m) h sized =
-              let both : stepped.In passes long ≡ stepped.In m.passes (norm m.step) = sym f ∙ h.says in
-              let same : long ≡ norm m.step = cc in
-              same ∙ ap norm (sym (first_laid m h (sized m refl)))
+        pub norm_laid : found.norm ≡ norm (slot (take (n + n) w₁) n 0)
+        norm_laid = go opened laid door_long where
+          go : (a : Answer Made) → Laid a (Ok found) w w₁ → ((m : Made) → a ≡ given m → length m.step ≡ n) → found.norm ≡ norm (slot (take (n + n) w₁) n 0)
+          go (refused x) h sized = none_found x h
+          go (given m) h sized = (λ i. (step_found m h i).norm) ∙ ap norm (sym (first_laid m h (sized m refl)))
 
-        pub step_made : (passes : ℕ) (long : Float) (r : Offered) (step' trial' u' : List Float) → found ≡ stepped.In passes long → length w₁ ≡ length w
-            → Offers n g H (offer n point (made passes (slot (take (n + n) w₁) n 0))) r step trial (take (n + n) w₁) step' trial' u'
+        pub step_made : (r : Result Offered Refusal) (step' trial' u' : List Float) → length w₁ ≡ length w
+            → Offers n g H (offer n point (made found.passes (slot (take (n + n) w₁) n 0))) r step trial (take (n + n) w₁) step' trial' u'
             → Offers n g H (offering asked n point g H step trial w) r step trial w step' trial' (u' ++ drop (n + n) w₁)
-        step_made passes long r step' trial' u' f l o = rw (checked, far, shown) (go opened laid door_long) where
-          go : (a : Answer Made) → Laid a found w w₁ → ((m : Made) → a ≡ given m → length m.step ≡ n) → Offers n g H (then (offer n point) a) r step trial w step' trial' (u' ++ drop (n + n) w₁)
-          go (refused x) h sized = absurd (let both : stepped.In passes long ≡ stepped.Refused x = sym f ∙ h.says in let z : ◌≡◌ {A = ℕ} 0 1 = cc in omega arith)
+        step_made r step' trial' u' l o = rw (checked, far, shown) (go opened laid door_long) where
+          go : (a : Answer Made) → Laid a (Ok found) w w₁ → ((m : Made) → a ≡ given m → length m.step ≡ n) → Offers n g H (then (offer n point) a) r step trial w step' trial' (u' ++ drop (n + n) w₁)
+          go (refused x) h sized = none_found x h
           go (given m) h sized =
-              let count : passes ≡ m.passes = (let both : stepped.In passes long ≡ stepped.In m.passes (norm m.step) = sym f ∙ h.says in cc) in
+              let count : found.passes ≡ m.passes = (λ i. (step_found m h i).passes) in
               let size : length m.step ≡ n = sized m refl in
               let room : n + n ≤ length w = omega (arith, lent.scratch) in
               let first : slot (take (n + n) w₁) n 0 ≡ m.step = first_laid m h size in

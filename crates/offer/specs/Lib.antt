@@ -1,4 +1,5 @@
 pub mod State
 pub mod Offer
+pub mod Session
 pub mod Calls
 pub mod Run

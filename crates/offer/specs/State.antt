@@ -1,15 +1,17 @@
 -- What a session of either kind keeps beside its settings, and what its calls say. Definitions only.
-use Rattle.std.specs.Prelude.{Bool, true, false, ◌&&◌, cond, [], ◌∷◌, ℕ, ◌+◌, leb, Float}
+use Rattle.std.specs.Prelude.{Bool, true, false, ◌&&◌, cond, [], ◌∷◌, Result, Ok, Err, ℕ, ◌+◌, leb, Float}
 use Rattle.std.specs.Float.Ieee.{le, is_nan}
 use Rattle.float.specs.Numbers.{finite}
 use Rattle.float.specs.Constants.{nought}
 use Rattle.vectors.specs.Refusal.{Answer, refused, given, all_hold}
+use Rattle.vectors.specs.declared.refusal.Refusal.{Refusal}
 use Rattle.vectors.specs.declared.refusal.Refusal.TheVariants.{Turn}
 use Rattle.offer.specs.declared.state.Phase.{Phase}
 use Rattle.offer.specs.declared.state.Phase.TheVariants.{Ready, AwaitingCost, AwaitingDerivatives}
+use Rattle.offer.specs.declared.state.Promise as code
 use Rattle.offer.specs.declared.state.State.{State}
-use Rattle.offer.specs.declared.state.Outcome.{Outcome}
-use Rattle.offer.specs.declared.state.Outcome.TheVariants.{Refused, Accepted, Rejected}
+use Rattle.offer.specs.declared.state.Said.{Said}
+use Rattle.offer.specs.declared.state.Said.TheVariants.{Accepted, Rejected}
 
 -- ---- "A session is the settings with the radius and the cost and a phase"; request Five adds "the number of NaN answers in a row"
 
@@ -53,10 +55,9 @@ awaits_cost = by_phase false (λ value norm. true) false
 abbrev pub awaits_derivatives : Phase → Bool
 awaits_derivatives = by_phase false (λ value norm. false) true
 
--- the model value m, or SR1's "P .. kept in place of m"
-pub record Promise : Type 0 where
-  pub value : Float
-  pub norm : Float
+-- the model value m, or SR1's "P .. kept in place of m", and the step norm
+abbrev pub Promise : Type 0
+Promise = code.Promise
 
 -- what a session that awaits a cost was promised on; any other is out of turn
 abbrev pub promised : Phase → Answer Promise
@@ -64,10 +65,14 @@ promised = by_phase (refused Turn) (λ value norm. given (record { value = value
 
 -- ---- what a call says
 
-abbrev pub verdict_of : (accepted : Bool) → (ratio : Float) → Outcome
-verdict_of accepted ratio = cond accepted (Accepted ratio) (Rejected ratio)
+-- an answer as the code returns it
+abbrev pub result_of : {A : Type 0} → Answer A → Result A Refusal
+result_of (refused r) = Err r
+result_of (given a) = Ok a
 
--- what a call returns of its answer, for a session s, where `saying` is how a session is returned with what the call says
-abbrev pub told : {A S R : Type 0} → (saying : S → Outcome → R) → (A → S) → (A → Outcome) → Answer A → S → R
-told saying session outcome (refused r) s = saying s (Refused r)
-told saying session outcome (given a) s = saying (session a) (outcome a)
+-- of a call: its refusal, or what it says
+abbrev pub Outcome : Type 0
+Outcome = Result Said Refusal
+
+abbrev pub verdict_of : (accepted : Bool) → (ratio : Float) → Said
+verdict_of accepted ratio = cond accepted (Accepted ratio) (Rejected ratio)

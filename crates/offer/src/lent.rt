@@ -1,4 +1,5 @@
-// Vectors that a call is lent: their lengths, and writing them whole.
+// Vectors that a call is lent: their lengths, and writing them whole. They stay parameters of their own, and no struct: each call
+// lends other ones of them to be written, and every caller, in Rust and in C, has its own.
 ghost use Rattle.std.specs.Prelude.{◌≡◌, ◌&&◌};
 ghost use Rattle.vectors.specs.Vector.{all_finite};
 ghost use Rattle.offer.specs.Offer.{all_sized};
@@ -18,27 +19,20 @@ pub fn all_sized(
 ) -> bool
     ensures { result ≡ all_sized n point.now gradient.now hessian.now step.now trial.now scratch.now }
 {
-    if !refusal::size(n) {
-        return false;
-    }
-    refusal::all_hold(&[
-        point.len() == n,
-        gradient.len() == n,
-        hessian.len() == n * n,
-        step.len() == n,
-        trial.len() == n,
-        scratch.len() == 2 * (n * n) + 8 * n,
-    ])
+    refusal::size(n)
+        && point.len() == n
+        && gradient.len() == n
+        && hessian.len() == n * n
+        && step.len() == n
+        && trial.len() == n
+        && scratch.len() == 2 * (n * n) + 8 * n
 }
 
 // The entries that a proposal reads.
 pub fn inputs_finite(point: &[f64], gradient: &[f64], hessian: &[f64]) -> bool
     ensures { result ≡ (all_finite point.now && all_finite gradient.now && all_finite hessian.now) }
 {
-    if !vector::both_finite(point, gradient) {
-        return false;
-    }
-    vector::all_finite(hessian)
+    vector::both_finite(point, gradient) && vector::all_finite(hessian)
 }
 
 // All numbers of a vector of the same length. The list is handed out, hence one_nan.
@@ -48,9 +42,7 @@ pub fn copy(from: &[f64], to: &mut [f64])
     if to.len() != from.len() {
         return;
     }
-    let mut i = 0;
-    while i < to.len() {
-        to[i] = float::one_nan(from[i]);
-        i += 1;
+    for (i, x) in to.iter_mut().enumerate() {
+        *x = float::one_nan(from[i]);
     }
 }

@@ -3,6 +3,7 @@
 
 pub mod lent;
 pub mod range;
+pub mod session;
 pub mod state;
 
 ghost use Rattle.std.specs.Prelude.{◌≡◌, ◌+◌, ◌≤◌, length};
@@ -19,7 +20,7 @@ use kernels::choice;
 use kernels::choice::Choice;
 use kernels::kernel::Stepped;
 use state::State;
-use vectors::refusal::{Refusal, Verdict};
+use vectors::refusal::Refusal;
 use vectors::vector;
 
 // What a session that is asked for a step lends of itself: its kernel, the most hidden trials in a row that it takes, its state, and
@@ -32,28 +33,26 @@ pub struct Asked {
     pub state: State,
 }
 
-// A step p: its passes, p·g, p·H·p and ‖p‖; or why there is none.
-#[derive(Clone, Copy)]
-pub enum Offered {
-    Refused(Refusal),
-    Step(u64, f64, f64, f64),
+// That a step p was made: its passes, p·g, p·H·p and ‖p‖.
+#[derive(Clone, Copy, Debug, PartialEq)]
+pub struct Offered {
+    pub passes: u64,
+    pub slope: f64,
+    pub curvature: f64,
+    pub norm: f64,
 }
 
 // What a session keeps of a step, whose norm the kernel took.
-fn measured(
-    n: usize,
-    gradient: &[f64],
-    hessian: &[f64],
-    passes: u64,
-    norm: f64,
-    step: &[f64],
-) -> Offered
-    requires { Square n (length hessian.now) × (length step.now ≡ n) × (norm ≡ Vector.norm step.now) }
-    ensures { result ≡ Calls.measured n gradient.now hessian.now passes step.now }
+fn measured(n: usize, gradient: &[f64], hessian: &[f64], made: Stepped, step: &[f64]) -> Offered
+    requires { Square n (length hessian.now) × (length step.now ≡ n) × (made.norm ≡ Vector.norm step.now) }
+    ensures { result ≡ Calls.measured n gradient.now hessian.now made.passes step.now }
 {
-    let slope = vector::dot_any(step, gradient);
-    let curvature = vector::value(vector::weighted_dot(n, step, hessian, step));
-    Offered::Step(passes, slope, curvature, norm)
+    Offered {
+        passes: made.passes,
+        slope: vector::dot_any(step, gradient),
+        curvature: vector::value(vector::weighted_dot(n, step, hessian, step)),
+        norm: made.norm,
+    }
 }
 
 // The step stands at the start of the scratch, in slot 0; the trial is laid beside it, since nothing may be written that is still refused.
@@ -61,38 +60,35 @@ fn lay_trial(n: usize, point: &[f64], w: &mut [f64])
     requires { (n + n ≤ length w.old) × (length point.now ≡ n) }
     ensures { Puts w.old n 1 (plus n (slot w.old n 0) point.now) w.new }
 {
-    let mut i = 0;
-    while i < n {
+    for i in 0..n {
         w[n + i] = w[i] + point[i];
-        i += 1;
     }
 }
 
 // Step and trial, from a step that a kernel laid out.
 fn hand_out(
     n: usize,
-    passes: u64,
-    norm: f64,
+    laid: Stepped,
     point: &[f64],
     gradient: &[f64],
     hessian: &[f64],
     step: &mut [f64],
     trial: &mut [f64],
     scratch: &mut [f64],
-) -> Offered
-    requires { (n + n ≤ length scratch.old) × Square n (length hessian.now) × (length point.now ≡ n) × (length step.old ≡ n) × (length trial.old ≡ n) × (norm ≡ Vector.norm (slot scratch.old n 0)) }
-    ensures { Offers n gradient.now hessian.now (offer n point.now (made passes (slot scratch.old n 0)))
+) -> Result<Offered, Refusal>
+    requires { (n + n ≤ length scratch.old) × Square n (length hessian.now) × (length point.now ≡ n) × (length step.old ≡ n) × (length trial.old ≡ n) × (laid.norm ≡ Vector.norm (slot scratch.old n 0)) }
+    ensures { Offers n gradient.now hessian.now (offer n point.now (made laid.passes (slot scratch.old n 0)))
         result step.old trial.old scratch.old step.new trial.new scratch.new }
 {
     lay_trial(n, point, scratch);
     if !vector::all_finite(&scratch[n..n + n]) {
         vector::clear(scratch);
-        return Offered::Refused(Refusal::Range);
+        return Err(Refusal::Range);
     }
     lent::copy(&scratch[0..n], step);
     lent::copy(&scratch[n..n + n], trial);
     vector::clear(scratch);
-    measured(n, gradient, hessian, passes, norm, step)
+    Ok(measured(n, gradient, hessian, laid, step))
 }
 
 // The kernel that is chosen is run, and its step and the trial are written, unless a refusal is due. A door for sessions
@@ -107,33 +103,21 @@ pub fn make_unchecked(
     step: &mut [f64],
     trial: &mut [f64],
     scratch: &mut [f64],
-) -> Offered
+) -> Result<Offered, Refusal>
     ensures { Offers n gradient.now hessian.now
         (offering asked n point.now gradient.now hessian.now step.old trial.old scratch.old)
         result step.old trial.old scratch.old step.new trial.new scratch.new }
 {
-    let choice = asked.choice;
-    let allowance = asked.allowance;
+    range::proposal(asked, n, point, gradient, hessian, step, trial, scratch)?;
     let state = asked.state;
-    let checks = range::proposal(asked, n, point, gradient, hessian, step, trial, scratch);
-    match checks {
-        Verdict::Failed(r) => Offered::Refused(r),
-        Verdict::Passed => {
-            if state.radius == 0.0 {
-                return Offered::Refused(Refusal::Radius);
-            }
-            if state.count == allowance {
-                return Offered::Refused(Refusal::Hidden);
-            }
-            let laid = choice::lay_unchecked(choice, n, state.radius, gradient, hessian, scratch);
-            match laid {
-                Stepped::Refused(r) => Offered::Refused(r),
-                Stepped::In(passes, norm) => {
-                    // behind the step the scratch is +0 already
-                    let used = &mut scratch[..n + n];
-                    hand_out(n, passes, norm, point, gradient, hessian, step, trial, used)
-                }
-            }
-        }
+    if state.radius == 0.0 {
+        return Err(Refusal::Radius);
     }
+    if state.count == asked.allowance {
+        return Err(Refusal::Hidden);
+    }
+    let laid = choice::lay_unchecked(asked.choice, n, state.radius, gradient, hessian, scratch)?;
+    // behind the step the scratch is +0 already
+    let used = &mut scratch[..n + n];
+    hand_out(n, laid, point, gradient, hessian, step, trial, used)
 }

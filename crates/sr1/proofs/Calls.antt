@@ -8,10 +8,9 @@ use Rattle.kernels.specs.Kernel.{Kernel}
 use Rattle.offer.specs.Run.{Does}
 use Rattle.offer.proofs.Runs.{does}
 use Rattle.sr1.specs.Session.{Proposal, Judgement}
-use Rattle.sr1.specs.Calls.{after_proposal, after_judgement, Proposes, Judges}
+use Rattle.sr1.specs.Calls.{After, after_proposal, after_judgement, Proposes, Judges}
 use Rattle.sr1.specs.Run.{Station, propose, answer, outcome, on_proposal, on_judgement, proposal_at, judgement_at, respond}
 use Rattle.sr1.specs.declared.settings.Settings.{Settings}
-use Rattle.sr1.specs.declared.session.After.{After}
 
 -- what the code returns, by the answer
 module _ (s : Station) where

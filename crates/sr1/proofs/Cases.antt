@@ -4,6 +4,7 @@ use mathlib.Core.Bool.{Bool, true, false}
 use mathlib.Core.List.{List, [], ◌∷◌, ◌++◌, map}
 use Prim.Native.Nat.{ℕ, ◌^◌}
 use lib.Ieee.{Float, nan, inf, binary64, round, of_bits, add, sub, mul, div, neg, lt, le, eq, ne, is_nan}
+use Rattle.std.specs.Prelude.{Ok, Err}
 use Rattle.float.specs.Constants.{nought, one, two, half, thousandth}
 use Rattle.vectors.specs.Vector.{zeros}
 use Rattle.vectors.specs.Refusal.{Answer, refused, given, number, room}
@@ -12,12 +13,11 @@ use Rattle.vectors.specs.declared.refusal.Refusal.TheVariants.{Size, Turn}
 use Rattle.offer.specs.State.{begin, moved, in_phase}
 use Rattle.offer.specs.Run.{own, Call, Entry, run, final}
 use Rattle.sr1.specs.Settings.{settings_of, allowing, updating, by_default, chosen}
-use Rattle.sr1.specs.Session.{start, proposal, next_radius, updates, judgement}
+use Rattle.sr1.specs.Session.{Session, start, proposal, next_radius, updates, judgement}
 use Rattle.sr1.specs.Run.{Station, Request, propose, answer, Told, outcome, respond}
-use Rattle.sr1.specs.declared.session.Session.{Session}
 use Rattle.offer.specs.declared.state.Phase.{Phase}
 use Rattle.offer.specs.declared.state.Phase.TheVariants.{Ready, AwaitingCost}
-use Rattle.offer.specs.declared.state.Outcome.TheVariants.{Refused, Proposed, Accepted}
+use Rattle.offer.specs.declared.state.Said.TheVariants.{Proposed, Accepted}
 
 infix 30 ◌over◌
 -- a / b, rounded once
@@ -99,7 +99,7 @@ numbers s = s.session.state.radius ∷ s.session.state.cost ∷ s.lent.point ++ 
 
 -- The ratio is 1, and the radius doubles.
 pub record Ran : Type 0 where
-  pub replies : map (λ (e : Entry Request Told). outcome e.reply) (run (respond chosen) station script) ≡ Proposed 0 ∷ Refused Turn ∷ Refused Size ∷ Accepted one ∷ []
+  pub replies : map (λ (e : Entry Request Told). outcome e.reply) (run (respond chosen) station script) ≡ Ok (Proposed 0) ∷ Err Turn ∷ Err Size ∷ Ok (Accepted one) ∷ []
   pub ends : numbers (final (respond chosen) station script) ≡ (5 over 1) ∷ (5 over 8) ∷ neg (1 over 2) ∷ neg one ∷ (3 over 2) ∷ nought ∷ one ∷ nought ∷ nought ∷ two ∷ []
 
 pub ran : Ran

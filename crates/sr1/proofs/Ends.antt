@@ -1,79 +1,52 @@
 -- How each call ends: its contract, from what its code has found out. Assumes nothing.
 use mathlib.Core.Path.{◌≡◌, refl, sym, ap, ◌∙◌}
-use mathlib.Core.Bool.{Bool, true, false, cond, not}
+use mathlib.Core.Bool.{Bool, true, false, cond, ◌&&◌, not}
 use mathlib.Core.List.{List, [], ◌∷◌}
 use Prim.Native.Nat.{ℕ, zero, suc, ◌≤◌}
 use native.Mathlib.Omega.{arith}
-use lib.Dec.{leb}
+use lib.Dec.{eqb}
 use lib.ListN.{length}
 use lib.Ieee.{Float, lt}
 use lib.Ieee.Bits.{is_true}
 use borrow.Author.Tests.{eqb-true}
-use Rattle.float.specs.Numbers.{finite, magnitude}
+use Rattle.std.specs.Prelude.{Ok, Err}
+use Rattle.float.specs.Numbers.{finite}
 use Rattle.float.proofs.Commute.{mul_commutes}
 use Rattle.vectors.specs.Vector.{zeros, dot_to, dot, all_finite}
-use Rattle.vectors.specs.Refusal.{Answer, refused, given, Check, ◌if◌, unless, then, judged, all_hold, sized, Square}
-use Rattle.kernels.specs.Choice as Choice
+use Rattle.vectors.specs.Refusal.{Answer, refused, given, Check, ◌if◌, unless, then, judged, checked, all_hold, sized, Square}
 use Rattle.vectors.specs.declared.refusal.Refusal.{Refusal}
-use Rattle.vectors.specs.declared.refusal.Refusal.TheVariants.{Size, Setting, Turn, Entry, Range}
-use Rattle.vectors.specs.declared.refusal.Verdict.{Verdict}
-use Rattle.vectors.specs.declared.refusal.Verdict.TheVariants.{Passed, Failed}
-use Rattle.vectors.proofs.Sizes.{Each, each_holds}
-use Rattle.kernels.proofs.Choices.{in_range_known}
+use Rattle.vectors.specs.declared.refusal.Refusal.TheVariants.{Size, Setting, Entry, Range}
+use Rattle.vectors.proofs.Sizes.{Each, each_holds, was_right, and_true}
 use Rattle.kernels.proofs.Kernels.{unless_passed, unless_failed, early, first_passed}
-use Rattle.offer.specs.Offer.{all_sized, start_checks, proposal_checks, Offer, stepping}
-use Rattle.offer.specs.State.{begin, moved, counted, steady, Promise, promised}
-use Rattle.offer.specs.Calls.{replaced, offering, Offers}
-use Rattle.offer.specs.declared.Asked.{Asked}
-use Rattle.offer.specs.declared.Offered.{Offered}
-use Rattle.offer.proofs.Checks.{passed_none, then_unless, not_not}
-use Rattle.offer.proofs.Counts.{count_small}
-use Rattle.offer.proofs.Lengths.{Lent, lent_true, copied}
-use Rattle.offer.proofs.Offers.{offers_kernel, offered_elim}
-use Rattle.sr1.specs.Settings.{ranges, in_range, chosen}
-use Rattle.sr1.specs.Session.{sound, turned, start, Proposal, converged, done, predicted_fall, awaiting, proposal, fall_ratio, next_radius, updated, settled, answer_entries, verdict, judge, judgement_checks, judgement}
-use Rattle.sr1.specs.Calls as Calls
-use Rattle.sr1.specs.Calls.{saying, after_offer, Proposes, Updates, Judges}
-use Rattle.sr1.specs.declared.settings.Settings.{Settings}
-use Rattle.sr1.specs.declared.session.Session.{Session}
-use Rattle.sr1.specs.declared.session.Start.TheVariants as begun
+use Rattle.offer.specs.Offer.{all_sized, proposal_checks, Offer, stepping}
+use Rattle.offer.specs.State.{result_of, moved, counted, Promise, promised}
+use Rattle.offer.specs.Session as any
+use Rattle.offer.specs.Calls as offer
+use Rattle.offer.specs.Calls.{early_checks, replaced, saying}
 use Rattle.offer.specs.declared.state.State.{State}
 use Rattle.offer.specs.declared.state.Phase.TheVariants.{Ready}
-use Rattle.offer.specs.declared.state.Outcome.TheVariants.{Refused, Done, Accepted, Rejected}
-use Rattle.sr1.specs.declared.session.After.{After}
-
--- ---- the start
-
-module _ (t : Settings) (f : Float) (v : Verdict) (judges : v ≡ judged (start_checks (in_range t) f)) where
-  pub starts_not : (r : Refusal) → v ≡ Failed r → begun.Refused r ≡ Calls.begun (start t f)
-  unfolding start
-  starts_not r e = rw (unless_failed (start_checks (in_range t) f) _ r (sym judges ∙ e))
-
-  pub starts : v ≡ Passed → (radius : Float) → radius ≡ magnitude t.radius → (state : State) → state ≡ begin radius f → begun.Started (record { settings = t; state = state }) ≡ Calls.begun (start t f)
-  unfolding start
-  starts e radius m state is = rw (is, m, unless_passed (start_checks (in_range t) f) _ (sym judges ∙ e))
+use Rattle.offer.specs.declared.state.Said.TheVariants.{Done, Accepted, Rejected}
+use Rattle.offer.proofs.Checks.{passed_none, then_unless, not_not, was_wrong, is_refused, is_given}
+use Rattle.offer.proofs.Lengths.{Lent, lent_true, copied}
+use Rattle.offer.proofs.Offers.{offered_elim}
+use Rattle.offer.proofs.Sessions as sessions
+use Rattle.sr1.specs.Settings.{chosen}
+use Rattle.sr1.specs.Session.{Session, kind, sound, turned, Proposal, converged, done, awaiting, proposal, fall_ratio, next_radius, updated, settled, answer_entries, verdict, judge, judgement_checks, judgement}
+use Rattle.sr1.specs.Calls.{After, Proposes, Updates, Judges}
+use Rattle.sr1.specs.Laws.{lawful}
 
 -- ---- a sound session
 
--- what it was asked
-abbrev sound_tests : Session → List Bool
-sound_tests s = in_range s.settings ∷ steady s.state ∷ leb s.state.count s.settings.allowance ∷ []
+pub sound_is : (s : Session) → any.sound kind s ≡ sound s
+unfolding sound
+sound_is s = refl
 
 -- its count is small
 sound_small : (s : Session) → sound s ≡ true → s.state.count ≤ 1000
-unfolding sound in_range
-sound_small s e =
-    let t = each_holds (sound_tests s) e in
-    count_small s.settings.allowance s.state.count (each_holds (ranges s.settings) t.0).1.1.1.1.1.1.1.1.0 t.1.1.0
+unfolding sound
+sound_small = sessions.sound_small kind lawful
 
 -- ---- the proposal
-
--- a sound session's settings name a kernel
-kernel_known : (s : Session) → sound s ≡ true → Choice.known s.settings.choice ≡ true
-unfolding sound in_range
-kernel_known s e =
-    let ranged = (each_holds (sound_tests s) e).0 in
-    in_range_known s.settings.choice (each_holds (ranges s.settings) ranged).0
 
 -- the kernels' p·g is document 01's g·s
 dot_to_commutes : (a b : List Float) (k : ℕ) → dot_to a b k ≡ dot_to b a k
@@ -85,11 +58,7 @@ dot_commutes : (a b : List Float) → length a ≡ length b → dot a b ≡ dot 
 unfolding dot
 dot_commutes a b e = rw e (dot_to_commutes a b (length b))
 
--- what a session lends of itself
-abbrev pub asking : Session → Asked
-asking s = record { choice = s.settings.choice; allowance = s.settings.allowance; sound = sound s; state = s.state }
-
--- `after` is what the code returns, or the session of that
+-- b is whether the code found that the session is done
 module _ (s : Session) (n : ℕ) (point gradient hessian step trial scratch : List Float) (b : Bool) (is-done : b ≡ converged s gradient) where
   abbrev checks : List Check
   checks = proposal_checks (sound s) s.state n point gradient hessian step trial scratch
@@ -108,40 +77,47 @@ module _ (s : Session) (n : ℕ) (point gradient hessian step trial scratch : Li
   unfolding proposal
   on_done = rw is-done
 
-  -- v is the code's verdict on the checks
-  module _ (t : b ≡ true) (v : Verdict) (judges : v ≡ judged checks) where
-    pub proposes_not : (r : Refusal) → v ≡ Failed r → (after : After) → after ≡ saying s (Refused r) → proposes after step trial scratch
-    proposes_not r e after is =
-        rw (on_done, unless_failed checks (going_on b) r (sym judges ∙ e))
-        (record { says = is; leaves_step = refl; leaves_trial = refl; leaves_scratch = rw (early checks r (refl, (refl, (refl, (refl, tt)))) (sym judges ∙ e)) })
+  module _ (t : b ≡ true) where
+    asked : judged (proposal_checks (any.sound kind s) s.state n point gradient hessian step trial scratch) ≡ judged checks
+    asked = rw (sound_is s)
 
-    pub proposes_done : v ≡ Passed → (scratch' : List Float) → scratch' ≡ zeros (length scratch) → proposes (record { session = s; outcome = Done }) step trial scratch'
-    proposes_done e scratch' z = rw (on_done, unless_passed checks (going_on b) (sym judges ∙ e), t) (record { says = refl; leaves_step = refl; leaves_trial = refl; leaves_scratch = z })
+    pub proposes_not : (r : Refusal) → Err r ≡ judged (proposal_checks (any.sound kind s) s.state n point gradient hessian step trial scratch) → proposes (saying s (Err r)) step trial scratch
+    proposes_not r e =
+        let failed : judged checks ≡ Err r = sym (e ∙ asked) in
+        rw (on_done, unless_failed checks (going_on b) r failed)
+        (record { says = refl; leaves_step = refl; leaves_trial = refl; leaves_scratch = rw (early checks r (refl, (refl, (refl, (refl, tt)))) failed) })
 
-  module _ (t : b ≡ false) (found : Offered) (step' trial' scratch' : List Float) (long : length step' ≡ length step) where
-    -- the session's proposal follows what was offered
-    follows : proposal chosen s n point gradient hessian step trial scratch ≡ keeping (offering (asking s) n point gradient hessian step trial scratch)
+    pub proposes_done : Ok tt ≡ judged (proposal_checks (any.sound kind s) s.state n point gradient hessian step trial scratch) → (scratch' : List Float) → scratch' ≡ zeros (length scratch)
+        → proposes (saying s (Ok Done)) step trial scratch'
+    proposes_done e scratch' z = rw (on_done, unless_passed checks (going_on b) (sym (e ∙ asked)), t) (record { says = refl; leaves_step = refl; leaves_trial = refl; leaves_scratch = z })
+
+  -- as any session does
+  module _ (t : b ≡ false) (after : After) (step' trial' scratch' : List Float) (long : length step' ≡ length step) where
+    follows : proposal chosen s n point gradient hessian step trial scratch ≡ keeping (sessions.offered kind lawful s n point gradient hessian step trial scratch)
+    unfolding sound
     follows =
         on_done ∙ rw t
-        (sym (ap keeping (offers_kernel (asking s) n point gradient hessian step trial scratch (kernel_known s))
+        (sym (ap keeping (sessions.by_kernel kind lawful s n point gradient hessian step trial scratch)
         ∙ then_unless (λ (o : Offer). given (awaiting s n gradient hessian o)) checks (stepping (chosen s.settings) s.settings.allowance s.state n point gradient hessian)))
 
-    module _ (after : After) (is : after ≡ after_offer s found) where
-      abbrev meets : Answer Offer → Type 0
-      meets a = Offers n gradient hessian a found step trial scratch step' trial' scratch' → Proposes (keeping a) s step trial scratch after step' trial' scratch'
+    abbrev meets : Answer Offer → Type 0
+    meets a = offer.Proposes (sessions.keeping kind lawful s n point gradient hessian step trial scratch a) s step trial scratch after step' trial' scratch' → Proposes (keeping a) s step trial scratch after step' trial' scratch'
 
-      refuses : (r : Refusal) → meets (refused r)
-      refuses r o = record { says = is ∙ ap (after_offer s) o.says; leaves_step = o.leaves_step; leaves_trial = o.leaves_trial; leaves_scratch = o.leaves_scratch }
+    refuses : (r : Refusal) → meets (refused r)
+    refuses r o = record { says = o.says; leaves_step = o.leaves_step; leaves_trial = o.leaves_trial; leaves_scratch = o.leaves_scratch }
 
-      hands_out : length step ≡ length gradient → (a : Answer Offer) → meets a
-      unfolding awaiting predicted_fall
-      hands_out l (refused r) o = refuses r o
-      hands_out l (given x) o =
-          let turned = dot_commutes x.step gradient (ap length (sym o.leaves_step) ∙ long ∙ l) in
-          record { says = is ∙ ap (after_offer s) o.says ∙ rw turned; leaves_step = o.leaves_step; leaves_trial = o.leaves_trial; leaves_scratch = o.leaves_scratch }
+    hands_out : length step ≡ length gradient → (a : Answer Offer) → meets a
+    unfolding awaiting
+    hands_out l (refused r) o = refuses r o
+    hands_out l (given x) o =
+        let commutes = dot_commutes x.step gradient (ap length (sym o.leaves_step) ∙ long ∙ l) in
+        record { says = o.says ∙ rw commutes; leaves_step = o.leaves_step; leaves_trial = o.leaves_trial; leaves_scratch = o.leaves_scratch }
 
-      pub proposes_offer : Offers n gradient hessian (offering (asking s) n point gradient hessian step trial scratch) found step trial scratch step' trial' scratch' → proposes after step' trial' scratch'
-      proposes_offer offers = rw follows (offered_elim (asking s) n point gradient hessian step trial scratch meets refuses (λ l. hands_out (l.step ∙ sym l.gradient)) offers)
+    pub proposes_so : offer.Proposes (sessions.proposed kind lawful s n point gradient hessian step trial scratch) s step trial scratch after step' trial' scratch' → proposes after step' trial' scratch'
+    proposes_so o =
+        rw follows
+        (offered_elim (any.asking kind s) n point gradient hessian step trial scratch meets refuses (λ l. hands_out (l.step ∙ sym l.gradient))
+        (rw (sessions.follows kind lawful s n point gradient hessian step trial scratch) at o))
 
 -- ---- the answer with a cost and a gradient
 
@@ -155,7 +131,7 @@ module _ (s : Session) (n : ℕ) (F : Float) (new_gradient point step trial grad
   abbrev pub answered : Bool
   answered = all_hold entries
 
-  module _ (passed : judged answer_checked ≡ Passed) where
+  module _ (passed : judged answer_checked ≡ Ok tt) where
     abbrev sizes_asked : List Bool
     sizes_asked = all_sized n point gradient hessian step trial scratch ∷ sized n new_gradient ∷ []
 
@@ -188,9 +164,9 @@ module _ (s : Session) (n : ℕ) (F : Float) (new_gradient point step trial grad
     abbrev judges_by : After → (point' gradient' hessian' scratch' : List Float) → Type 0
     judges_by = Judges (judge s n F new_gradient point step trial gradient hessian p) s point gradient hessian scratch
 
-    pub judge_unanswered : answered ≡ false → (after : After) → after ≡ saying s (Refused Entry) → judges_by after point gradient hessian scratch
+    pub judge_unanswered : (r : Refusal) (b : Bool) → b ≡ answered → Err r ≡ checked Entry b → judges_by (saying s (Err r)) point gradient hessian scratch
     unfolding judge
-    judge_unanswered a after is = rw a (record { says = is; leaves_point = refl; leaves_gradient = refl; leaves_hessian = refl; leaves_scratch = refl })
+    judge_unanswered r b is e = let w = was_wrong Entry b e in rw (w.1, sym is ∙ w.0) (record { says = refl; leaves_point = refl; leaves_gradient = refl; leaves_hessian = refl; leaves_scratch = refl })
 
     abbrev ratio : Float
     ratio = fall_ratio s.state.cost F p.value
@@ -204,53 +180,65 @@ module _ (s : Session) (n : ℕ) (F : Float) (new_gradient point step trial grad
       unfolding judge
       on_answer = rw (a, is-next, is-ratio)
 
-      pub judge_far : finite next ≡ false → (scratch' : List Float) → scratch' ≡ zeros (length scratch) → (after : After) → after ≡ saying s (Refused Range) → judges_by after point gradient hessian scratch'
-      judge_far b scratch' z after is = rw (on_answer, b) (record { says = is; leaves_point = refl; leaves_gradient = refl; leaves_hessian = refl; leaves_scratch = z })
+      pub judge_far : finite next ≡ false → (scratch' : List Float) → scratch' ≡ zeros (length scratch) → judges_by (saying s (Err Range)) point gradient hessian scratch'
+      judge_far b scratch' z = rw (on_answer, b) (record { says = refl; leaves_point = refl; leaves_gradient = refl; leaves_hessian = refl; leaves_scratch = z })
 
       -- and its new Hessian
-      module _ (b : finite next ≡ true) (r : Bool) (hessian' scratch' : List Float) (u : Updates next_hessian r hessian hessian') (z : scratch' ≡ zeros (length scratch)) where
-        pub judge_not_finite : r ≡ false → (after : After) → after ≡ saying s (Refused Range) → judges_by after point gradient hessian' scratch'
-        judge_not_finite e after is =
-            let bad : all_finite next_hessian ≡ false = sym u.says ∙ e in
-            rw (on_answer, b, bad) (record { says = is; leaves_point = refl; leaves_gradient = refl; leaves_hessian = u.leaves ∙ rw bad; leaves_scratch = z })
+      module _ (b : finite next ≡ true) (hessian' scratch' : List Float) (z : scratch' ≡ zeros (length scratch)) where
+        pub judge_not_finite : (r : Refusal) → Updates next_hessian (Err r) hessian hessian' → judges_by (saying s (Err r)) point gradient hessian' scratch'
+        judge_not_finite r u =
+            let w = was_wrong Range (all_finite next_hessian) u.says in
+            rw (w.1, on_answer, b, w.0) (record { says = refl; leaves_point = refl; leaves_gradient = refl; leaves_hessian = u.leaves ∙ rw w.0; leaves_scratch = z })
 
-        module _ (e : r ≡ true) (count : ℕ) (is-count : count ≡ counted F s.state.count) where
+        module _ (u : Updates next_hessian (Ok tt) hessian hessian') (count : ℕ) (is-count : count ≡ counted F s.state.count) (state : State) where
           good : all_finite next_hessian ≡ true
-          good = sym u.says ∙ e
+          good = was_right Range (all_finite next_hessian) u.says
 
           settles : judge s n F new_gradient point step trial gradient hessian p ≡ given (settled s F x next new_gradient point trial gradient next_hessian)
           settles = on_answer ∙ rw (b, good)
 
-          pub judge_accepts : lt s.settings.eta x ≡ true → (passed : judged answer_checked ≡ Passed) (point' gradient' : List Float) → point' ≡ replaced trial point → gradient' ≡ replaced new_gradient gradient
-              → (state : State) → state ≡ moved s.state next F Ready count → (k : After) → k ≡ saying (turned s state) (Accepted x) → judges_by k point' gradient' hessian' scratch'
+          pub judge_accepts : lt s.settings.eta x ≡ true → (passed : judged answer_checked ≡ Ok tt) (point' gradient' : List Float) → point' ≡ replaced trial point → gradient' ≡ replaced new_gradient gradient
+              → state ≡ moved s.state next F Ready count → judges_by (saying (turned s state) (Ok (Accepted x))) point' gradient' hessian' scratch'
           unfolding settled
-          judge_accepts t passed point' gradient' c d state f k is =
-              rw (is, f, is-count, settles, t)
+          judge_accepts t passed point' gradient' c d f =
+              rw (f, is-count, settles, t)
               (record { says = refl; leaves_point = c ∙ takes_trial passed; leaves_gradient = d ∙ takes_gradient passed; leaves_hessian = u.leaves ∙ rw good; leaves_scratch = z })
 
-          pub judge_rejects : lt s.settings.eta x ≡ false
-              → (state : State) → state ≡ moved s.state next s.state.cost Ready count → (k : After) → k ≡ saying (turned s state) (Rejected x) → judges_by k point gradient hessian' scratch'
+          pub judge_rejects : lt s.settings.eta x ≡ false → state ≡ moved s.state next s.state.cost Ready count → judges_by (saying (turned s state) (Ok (Rejected x))) point gradient hessian' scratch'
           unfolding settled
-          judge_rejects t state f k is = rw (is, f, is-count, settles, t) (record { says = refl; leaves_point = refl; leaves_gradient = refl; leaves_hessian = u.leaves ∙ rw good; leaves_scratch = z })
+          judge_rejects t f = rw (f, is-count, settles, t) (record { says = refl; leaves_point = refl; leaves_gradient = refl; leaves_hessian = u.leaves ∙ rw good; leaves_scratch = z })
 
-  module _ (v : Verdict) (judges : v ≡ judged answer_checked) where
-    pub judges_not : (r : Refusal) → v ≡ Failed r → (after : After) → after ≡ saying s (Refused r)
-        → Judges (judgement s n F new_gradient point step trial gradient hessian scratch) s point gradient hessian scratch after point gradient hessian scratch
+  -- b and h are what the code found of the lengths of what any session is lent, and of the session
+  module _ (b h : Bool) (is-sized : b ≡ all_sized n point gradient hessian step trial scratch) (is-sound : h ≡ any.sound kind s) where
+    abbrev found : List Check
+    found = early_checks (b && eqb (length new_gradient) n) h true true
+
+    same_checks : judged found ≡ judged answer_checked
+    same_checks = rw (is-sized, is-sound ∙ sound_is s, and_true (sized n new_gradient))
+
+    pub judges_not : (r : Refusal) → Err r ≡ judged found
+        → Judges (judgement s n F new_gradient point step trial gradient hessian scratch) s point gradient hessian scratch (saying s (Err r)) point gradient hessian scratch
     unfolding judgement
-    judges_not r e after is =
-        rw (unless_failed answer_checked (then (judge s n F new_gradient point step trial gradient hessian) (promised s.state.phase)) r (sym judges ∙ e))
-        (record { says = is; leaves_point = refl; leaves_gradient = refl; leaves_hessian = refl; leaves_scratch = rw (early answer_checked r (refl, (refl, tt)) (sym judges ∙ e)) })
+    judges_not r e =
+        let failed : judged answer_checked ≡ Err r = sym (e ∙ same_checks) in
+        rw (unless_failed answer_checked (then (judge s n F new_gradient point step trial gradient hessian) (promised s.state.phase)) r failed)
+        (record { says = refl; leaves_point = refl; leaves_gradient = refl; leaves_hessian = refl; leaves_scratch = rw (early answer_checked r (refl, (refl, tt)) failed) })
 
-    module _ (e : v ≡ Passed) where
+    module _ (e : Ok tt ≡ judged found) where
+      pub judge_ready : judged answer_checked ≡ Ok tt
+      judge_ready = sym (e ∙ same_checks)
+
       on_promise : judgement s n F new_gradient point step trial gradient hessian scratch ≡ then (judge s n F new_gradient point step trial gradient hessian) (promised s.state.phase)
       unfolding judgement
-      on_promise = unless_passed answer_checked _ (sym judges ∙ e)
+      on_promise = unless_passed answer_checked _ judge_ready
 
-      pub judges_out_of_turn : promised s.state.phase ≡ refused Turn → (after : After) → after ≡ saying s (Refused Turn)
-          → Judges (judgement s n F new_gradient point step trial gradient hessian scratch) s point gradient hessian scratch after point gradient hessian scratch
-      judges_out_of_turn t after is = rw (on_promise, t) (record { says = is; leaves_point = refl; leaves_gradient = refl; leaves_hessian = refl; leaves_scratch = refl })
+      pub judges_out_of_turn : (r : Refusal) → Err r ≡ result_of (promised s.state.phase)
+          → Judges (judgement s n F new_gradient point step trial gradient hessian scratch) s point gradient hessian scratch (saying s (Err r)) point gradient hessian scratch
+      judges_out_of_turn r t =
+          rw (on_promise, is_refused (promised s.state.phase) t, sessions.out_of_turn s.state.phase t)
+          (record { says = refl; leaves_point = refl; leaves_gradient = refl; leaves_hessian = refl; leaves_scratch = refl })
 
-      pub judges_in_turn : (p : Promise) (r : After) (point' gradient' hessian' scratch' : List Float) → promised s.state.phase ≡ given p
+      pub judges_in_turn : (p : Promise) (r : After) (point' gradient' hessian' scratch' : List Float) → Ok p ≡ result_of (promised s.state.phase)
           → Judges (judge s n F new_gradient point step trial gradient hessian p) s point gradient hessian scratch r point' gradient' hessian' scratch'
           → Judges (judgement s n F new_gradient point step trial gradient hessian scratch) s point gradient hessian scratch r point' gradient' hessian' scratch'
-      judges_in_turn p r point' gradient' hessian' scratch' t h = rw (on_promise, t) h
+      judges_in_turn p r point' gradient' hessian' scratch' t j = rw (on_promise, is_given (promised s.state.phase) t) j

@@ -18,9 +18,8 @@ use Rattle.vectors.proofs.Sizes.{each_holds}
 use Rattle.kernels.proofs.Kernels.{first_passed}
 use Rattle.offer.specs.State.{Promise, promised}
 use Rattle.offer.proofs.Checks.{None, unless_same, unless_elim, then_elim, not_not, clash}
-use Rattle.sr1.specs.Session.{Judgement, book_rule, updated_by, updated, settled, answer_entries, answer_checks, verdict, judge, judgement_checks, judgement}
+use Rattle.sr1.specs.Session.{Session, Judgement, book_rule, updated_by, updated, settled, answer_entries, answer_checks, verdict, judge, judgement_checks, judgement}
 use Rattle.sr1.specs.Skips.{q, tested, Skips, ratio, radius_after, left_out, skipping, Skip_rule}
-use Rattle.sr1.specs.declared.session.Session.{Session}
 use Rattle.sr1.proofs.Hessians.{and_false, by_other}
 use Rattle.sr1.proofs.Zeros.{first_refused}
 

@@ -12,6 +12,7 @@ use lib.Ieee.Bits.{is_true}
 use lib.Ieee.Fits.{up_pos, down_pos}
 use lib.Ieee.Exact.{HasValue, round_exact}
 use borrow.Author.Tests.{ne_eqb}
+use Rattle.std.specs.Prelude.{Ok}
 use Rattle.float.specs.Numbers.{◌⊕◌, ◌⊗◌, ◌⊘◌, finite, magnitude}
 use Rattle.float.specs.Constants.{nought, one}
 use Rattle.float.proofs.Operands.{add_finite}
@@ -19,12 +20,10 @@ use Rattle.float.proofs.Order.{AtMost, AtMost→le}
 use Rattle.vectors.specs.Vector.{at, row, all_finite}
 use Rattle.vectors.specs.Refusal.{refused, given, then, judged}
 use Rattle.vectors.specs.declared.refusal.Refusal.TheVariants.{Range}
-use Rattle.vectors.specs.declared.refusal.Verdict.TheVariants.{Passed}
 use Rattle.kernels.proofs.Kernels.{unless_passed}
 use Rattle.offer.specs.State.{Promise, promised}
-use Rattle.sr1.specs.Session.{residual, ported_rule, gained_at, gained_row, gained, updated_by, updated, judge, judgement_checks, judgement}
+use Rattle.sr1.specs.Session.{Session, residual, ported_rule, gained_at, gained_row, gained, updated_by, updated, judge, judgement_checks, judgement}
 use Rattle.sr1.specs.Skips.{q, tested, radius_after}
-use Rattle.sr1.specs.declared.session.Session.{Session}
 use Rattle.sr1.proofs.Ends.{answered, answer_lent}
 use Rattle.sr1.proofs.Hessians.{and_false, by_first, row_bad, rows_bad}
 
@@ -120,7 +119,7 @@ module _ (s : Session) (n : ℕ) (F : Float) (new_gradient point step trial grad
   unfolding updated updated_by
   next_bad h t = rw t (no_row n hessian (residual n new_gradient gradient hessian step) (one ⊘ q n new_gradient gradient hessian step) h (zero_elim (λ x. finite (one ⊘ x) ≡ false) one_over _ zero-q))
 
-  module _ (is : promised s.state.phase ≡ given p) (passed : judged (judgement_checks s n new_gradient point step trial gradient hessian scratch) ≡ Passed) (read : answered s n F new_gradient point step trial gradient hessian scratch ≡ true) where
+  module _ (is : promised s.state.phase ≡ given p) (passed : judged (judgement_checks s n new_gradient point step trial gradient hessian scratch) ≡ Ok tt) (read : answered s n F new_gradient point step trial gradient hessian scratch ≡ true) where
     -- Whichever test lets a q of zero through, the answer is refused by 8.
     pub zero_refused : tested s n new_gradient gradient hessian step p ≡ true → judgement s n F new_gradient point step trial gradient hessian scratch ≡ refused Range
     unfolding judgement judge

@@ -1,15 +1,13 @@
 -- A run of an `SR1TrustRegion` session. Definitions only. (What a run is, of either kind of session: `offer`'s specs/Run.antt.)
-use Rattle.std.specs.Prelude.{List, ℕ, Float}
+use Rattle.std.specs.Prelude.{List, Ok, Err, ℕ, Float}
 use Rattle.vectors.specs.Refusal.{Answer, refused, given, left_in, scratch_after}
 use Rattle.kernels.specs.Kernel.{Kernel}
 use Rattle.offer.specs.Run as Run
 use Rattle.offer.specs.Run.{Vectors, Trial, trial_at, answered, proposing}
-use Rattle.sr1.specs.Session.{Proposal, proposal, Judgement, judgement}
-use Rattle.offer.specs.State.{verdict_of}
+use Rattle.sr1.specs.Session.{Session, Proposal, proposal, Judgement, judgement}
+use Rattle.offer.specs.State.{Outcome, verdict_of}
 use Rattle.sr1.specs.declared.settings.Settings.{Settings}
-use Rattle.sr1.specs.declared.session.Session.{Session}
-use Rattle.offer.specs.declared.state.Outcome.{Outcome}
-use Rattle.offer.specs.declared.state.Outcome.TheVariants.{Refused}
+use Rattle.offer.specs.declared.state.Said.{Said}
 
 -- ---- what is asked, and what is told
 
@@ -20,7 +18,7 @@ pub data Request : Type 0 where
 
 -- of a proposal that it is done, or made with so many passes, and the step and the trial as it leaves them
 pub data Told : Type 0 where
-  proposed : Outcome → (step trial : List Float) → Told
+  proposed : Said → (step trial : List Float) → Told
   judged : Trial → Told
 
 abbrev pub Station : Type 0
@@ -31,14 +29,14 @@ Done = Run.Done Session Told
 
 -- the reply as a call of the code says it
 abbrev pub outcome : Answer Told → Outcome
-outcome (refused r) = Refused r
-outcome (given (proposed o step trial)) = o
-outcome (given (judged t)) = verdict_of t.accepted t.ratio
+outcome (refused r) = Err r
+outcome (given (proposed said step trial)) = Ok said
+outcome (given (judged t)) = Ok (verdict_of t.accepted t.ratio)
 
 -- ---- one call: its reply, and the station afterwards
 
 unfoldable pub on_proposal : Station → Answer Proposal → Done
-on_proposal = answered (λ (p : Proposal). proposed p.outcome p.step p.trial) (λ (p : Proposal). p.session) (proposing (λ (p : Proposal). p.step) (λ (p : Proposal). p.trial))
+on_proposal = answered (λ (p : Proposal). proposed p.said p.step p.trial) (λ (p : Proposal). p.session) (proposing (λ (p : Proposal). p.step) (λ (p : Proposal). p.trial))
 
 unfoldable pub on_judgement : Station → Float → Answer Judgement → Done
 on_judgement s F = answered tell (λ (j : Judgement). j.session) leave s

@@ -1,6 +1,6 @@
 -- The `SR1TrustRegion` session of document 01, on values: what each of its calls answers, for every input, refused ones too. Definitions only.
 -- A call is a function of the session, of n, and of the lent vectors as they are at entry. Its answer is a refusal, or all that the call changes.
-use Rattle.std.specs.Prelude.{Bool, not, ◌&&◌, cond, List, [], ◌∷◌, ℕ, eqb, leb, Float}
+use Rattle.std.specs.Prelude.{Bool, not, ◌&&◌, cond, List, [], ◌∷◌, ℕ, eqb, Float}
 use Rattle.std.specs.Float.Ieee.{lt, le, ne, neg}
 use Rattle.float.specs.Numbers.{◌⊕◌, ◌⊖◌, ◌⊗◌, ◌⊘◌, finite, magnitude}
 use Rattle.float.specs.Constants.{nought, one, two, half, three_quarters, tenth, four_fifths}
@@ -10,36 +10,47 @@ use Rattle.vectors.specs.Refusal.{Answer, given, Check, ◌if◌, unless, then, 
 use Rattle.kernels.specs.Kernel.{Kernel}
 use Rattle.vectors.specs.declared.refusal.Refusal.TheVariants.{Size, Setting, Entry, Range}
 use Rattle.sr1.specs.Settings.{in_range}
-use Rattle.offer.specs.Offer.{all_sized, cost_taken, start_checks, proposal_checks, Offer, offer, stepping}
-use Rattle.offer.specs.State.{begin, moved, in_phase, counted, steady, Promise, promised}
+use Rattle.offer.specs.Offer.{all_sized, cost_taken, proposal_checks, Offer, offer, stepping}
+use Rattle.offer.specs.State.{moved, in_phase, counted, Promise, promised}
+use Rattle.offer.specs.Session as any
+use Rattle.offer.specs.declared.session.Session as sessions
 use Rattle.sr1.specs.declared.settings.Settings.{Settings}
-use Rattle.sr1.specs.declared.session.Session.{Session}
 use Rattle.offer.specs.declared.state.State.{State}
 use Rattle.offer.specs.declared.state.Phase.TheVariants.{Ready, AwaitingCost}
-use Rattle.offer.specs.declared.state.Outcome.{Outcome}
-use Rattle.offer.specs.declared.state.Outcome.TheVariants.{Done, Proposed}
+use Rattle.offer.specs.declared.state.Said.{Said}
+use Rattle.offer.specs.declared.state.Said.TheVariants.{Done, Proposed}
 
--- not "a setting out of range or not finite, or a session with negative or not finite radius, or cost not finite"; "a session checks all settings of its kind, whatever its kernel";
--- nor "a count above" the allowance
+abbrev pub Session : Type 0
+Session = sessions.Session Settings
+
+-- ---- what it has of every kind of session, by `offer`'s specs/Session.antt
+
+-- "P = (−(g·s)) − 0.5·(s·H·s)"
+abbrev pub predicted_fall : (slope curvature : Float) → Float
+predicted_fall slope curvature = neg slope ⊖ half ⊗ curvature
+
+-- "SR1's radius is taken by magnitude first"
+abbrev pub kind : any.Kind Settings
+kind = record { in_range = in_range; choice = λ t. t.choice; allowance = λ t. t.allowance; first_radius = λ t. magnitude t.radius; promise = λ f slope curvature. predicted_fall slope curvature }
+
+-- what refusal 2 asks of it
 unfoldable pub sound : Session → Bool
 unfolding in_range finite
-sound s = all_hold (in_range s.settings ∷ steady s.state ∷ leb s.state.count s.settings.allowance ∷ [])
+sound = any.sound kind
 
 -- the session in another state
 abbrev pub turned : Session → State → Session
-turned s state = record { settings = s.settings; state = state }
-
--- ---- start: "takes settings and cost only"; "SR1's radius is taken by magnitude first"
+turned = any.turned
 
 unfoldable pub start : Settings → Float → Answer Session
 unfolding in_range finite magnitude
-start settings f = unless (start_checks (in_range settings) f) (given (record { settings = settings; state = begin (magnitude settings.radius) f }))
+start = any.start kind
 
 -- ---- propose
 
 pub record Proposal : Type 0 where
   pub session : Session
-  pub outcome : Outcome
+  pub said : Said
   pub step : List Float
   pub trial : List Float
 
@@ -50,19 +61,14 @@ converged s gradient = lt (norm gradient) s.settings.tol_grad
 
 -- "Done" writes only scratch's zeros and leaves the session ready.
 abbrev pub done : Session → (step trial : List Float) → Proposal
-done s step trial = record { session = s; outcome = Done; step = step; trial = trial }
-
--- "P = (−(g·s)) − 0.5·(s·H·s)"
-unfoldable pub predicted_fall : ℕ → (gradient hessian step : List Float) → Float
-unfolding dot weighted
-predicted_fall n gradient hessian step = neg (dot gradient step) ⊖ half ⊗ weighted n step hessian step
+done s step trial = record { session = s; said = Done; step = step; trial = trial }
 
 -- "Proposing is as above, with P .. kept in place of m."
 unfoldable pub awaiting : Session → ℕ → (gradient hessian : List Float) → Offer → Proposal
-unfolding predicted_fall norm
+unfolding dot weighted norm
 awaiting s n gradient hessian o = record {
-  session = turned s (in_phase (AwaitingCost (predicted_fall n gradient hessian o.step) (norm o.step)) s.state);
-  outcome = Proposed o.passes;
+  session = turned s (in_phase (AwaitingCost (predicted_fall (dot gradient o.step) (weighted n o.step hessian o.step)) (norm o.step)) s.state);
+  said = Proposed o.passes;
   step = o.step;
   trial = o.trial;
 }

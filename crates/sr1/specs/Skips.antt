@@ -1,15 +1,13 @@
 -- An answer that skips the update of the Hessian, under either edition, and what is promised of a q of zero. Definitions only; that it is so is proofs/Skips.antt.
-use Rattle.std.specs.Prelude.{◌≡◌, Bool, true, false, not, List, [], ◌∷◌, ℕ, Float}
+use Rattle.std.specs.Prelude.{◌≡◌, Ok, Bool, true, false, not, List, [], ◌∷◌, ℕ, Float}
 use Rattle.std.specs.Float.Ieee.{eq}
 use Rattle.float.specs.Numbers.{◌⊗◌, finite}
 use Rattle.float.specs.Constants.{nought}
 use Rattle.vectors.specs.Vector.{dot}
 use Rattle.vectors.specs.Refusal.{Answer, refused, given, ◌if◌, unless, judged, then, left_in}
 use Rattle.vectors.specs.declared.refusal.Refusal.TheVariants.{Range}
-use Rattle.vectors.specs.declared.refusal.Verdict.TheVariants.{Passed}
 use Rattle.offer.specs.State.{Promise, promised}
-use Rattle.sr1.specs.Session.{Judgement, fall_ratio, next_radius, residual, updates, settled, answer_checks, judgement_checks, judgement}
-use Rattle.sr1.specs.declared.session.Session.{Session}
+use Rattle.sr1.specs.Session.{Session, Judgement, fall_ratio, next_radius, residual, updates, settled, answer_checks, judgement_checks, judgement}
 
 -- "z = (G − g) − H·s, q = s·z", of the lists that an answer is lent
 abbrev pub q : ℕ → (new_gradient gradient hessian step : List Float) → Float
@@ -52,5 +50,5 @@ pub record Skip_rule (s : Session) (n : ℕ) (F : Float) (new_gradient point ste
       → judgement s n F new_gradient point step trial gradient hessian scratch ≡ refused Range → finite (radius_after s F p) ≡ false
   -- Under edition 1 it is one: a q of zero is refused by 8, unless a lower refusal is given or factor·‖s‖ is not finite.
   pub divides : s.settings.edition ≡ 1 → eq (q n new_gradient gradient hessian step) nought ≡ true → (p : Promise) → promised s.state.phase ≡ given p
-      → finite (s.settings.factor ⊗ p.norm) ≡ true → judged (judgement_checks s n new_gradient point step trial gradient hessian scratch) ≡ Passed
-      → judged (answer_checks F new_gradient step trial gradient hessian) ≡ Passed → judgement s n F new_gradient point step trial gradient hessian scratch ≡ refused Range
+      → finite (s.settings.factor ⊗ p.norm) ≡ true → judged (judgement_checks s n new_gradient point step trial gradient hessian scratch) ≡ Ok tt
+      → judged (answer_checks F new_gradient step trial gradient hessian) ≡ Ok tt → judgement s n F new_gradient point step trial gradient hessian scratch ≡ refused Range

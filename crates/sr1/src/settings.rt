@@ -1,11 +1,13 @@
 // What argmin's SR1TrustRegion is made with.
 ghost use Rattle.std.specs.Prelude.{◌≡◌};
 ghost use Rattle.sr1.specs.Settings.{by_default, settings_of, allowing, updating, in_range};
+ghost use Rattle.sr1.specs.Session as Definition;
+ghost use Rattle.sr1.specs.Laws.{lawful};
 
 use kernels::choice::Choice;
 use kernels::{choice, kernel};
+use offer::session::Kind;
 use offer::state;
-use vectors::refusal;
 
 #[derive(Clone, Copy)]
 pub struct Settings {
@@ -51,17 +53,17 @@ impl Settings {
         ensures { result ≡ settings_of choice radius eta factor tol_grad }
     {
         Self {
-            choice: choice,
-            radius: radius,
-            eta: eta,
-            factor: factor,
-            tol_grad: tol_grad,
+            choice,
+            radius,
+            eta,
+            factor,
+            tol_grad,
             allowance: Self::ALLOWANCE,
             edition: Self::EDITION,
         }
     }
 
-    // At most so many hidden trials in a row.
+    // At most so many hidden trials in a row. (Why TrustRegion's settings have their own: there.)
     pub fn with_allowance(mut self, allowance: u64) -> Self
         ensures { result ≡ allowing allowance self }
     {
@@ -79,21 +81,53 @@ impl Settings {
 }
 
 // Every setting is checked, whatever the kernel. The radius is taken by magnitude.
+#[tactic(auto, unfolding(crate::specs::Settings::in_range))]
 pub fn in_range(t: Settings) -> bool
     ensures { result ≡ in_range t }
 {
-    let choice = t.choice;
-    refusal::all_hold(&[
-        choice::in_range(choice),
-        kernel::positive(float::magnitude(t.radius)),
-        kernel::positive(t.eta),
-        t.eta < 0.01,
-        kernel::positive(t.factor),
-        t.factor < 1.0,
-        float::finite(t.tol_grad),
-        0.0 <= t.tol_grad,
-        state::allowable(t.allowance),
-        1 <= t.edition,
-        t.edition <= 2,
-    ])
+    choice::in_range(t.choice)
+        && kernel::positive(float::magnitude(t.radius))
+        && kernel::positive(t.eta)
+        && t.eta < 0.01
+        && kernel::positive(t.factor)
+        && t.factor < 1.0
+        && float::finite(t.tol_grad)
+        && 0.0 <= t.tol_grad
+        && state::allowable(t.allowance)
+        && 1 <= t.edition
+        && t.edition <= 2
+}
+
+// The fall that the model promises: (−(g·s)) − 0.5·(s·H·s).
+fn predicted_fall(slope: f64, curvature: f64) -> f64
+    ensures { result ≡ Definition.predicted_fall slope curvature }
+{
+    float::one_nan(-slope - 0.5 * curvature)
+}
+
+impl Kind for Settings {
+    ghost kind = { Definition.kind };
+
+    ghost laws = { lawful };
+
+    fn in_range(self) -> bool {
+        in_range(self)
+    }
+
+    fn choice(self) -> Choice {
+        self.choice
+    }
+
+    fn allowance(self) -> u64 {
+        self.allowance
+    }
+
+    fn first_radius(self) -> f64 {
+        float::magnitude(self.radius)
+    }
+
+    // A step is promised on its predicted fall, whatever the cost.
+    fn promise(_cost: f64, slope: f64, curvature: f64) -> f64 {
+        predicted_fall(slope, curvature)
+    }
 }

@@ -8,10 +8,9 @@ use Rattle.kernels.specs.Kernel.{Kernel}
 use Rattle.offer.specs.Run.{Does}
 use Rattle.offer.proofs.Runs.{does}
 use Rattle.trustregion.specs.Session.{Proposal, Judgement, Renewal}
-use Rattle.trustregion.specs.Calls.{after_proposal, after_judgement, after_renewal, Proposes, Judges, Renews}
+use Rattle.trustregion.specs.Calls.{After, after_proposal, after_judgement, after_renewal, Proposes, Judges, Renews}
 use Rattle.trustregion.specs.Run.{Station, propose, cost, derivatives, outcome, on_proposal, on_judgement, on_renewal, proposal_at, judgement_at, renewal_at, respond}
 use Rattle.trustregion.specs.declared.settings.Settings.{Settings}
-use Rattle.trustregion.specs.declared.session.After.{After}
 
 -- what the code returns, by the answer
 module _ (s : Station) where

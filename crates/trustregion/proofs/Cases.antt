@@ -11,12 +11,11 @@ use Rattle.vectors.specs.Vector.{zeros}
 use Rattle.vectors.specs.Refusal.{Answer, refused, given, number, room}
 use Rattle.kernels.specs.Choice as Choice
 use Rattle.trustregion.specs.Settings.{allowing, by_default, chosen}
-use Rattle.trustregion.specs.Session.{proposal, next_radius, judgement, renewal}
+use Rattle.trustregion.specs.Session.{Session, proposal, next_radius, judgement, renewal}
 use Rattle.offer.specs.Run.{Trial, own, others, run, final, calls, lent_same, Thinned, none, keep}
 use Rattle.offer.specs.State.{begin, moved, in_phase, awaits_cost}
 use Rattle.trustregion.specs.Run.{Station, Request, propose, cost, derivatives, Call, Entry, respond, never_reaches, strike, trials}
 use Rattle.trustregion.specs.Demand3.{Same_run}
-use Rattle.trustregion.specs.declared.session.Session.{Session}
 use Rattle.offer.specs.declared.state.Phase.{Phase}
 use Rattle.offer.specs.declared.state.Phase.TheVariants.{Ready, AwaitingCost, AwaitingDerivatives}
 

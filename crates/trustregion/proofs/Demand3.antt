@@ -10,13 +10,12 @@ use Rattle.kernels.specs.Kernel.{Kernel, Proper}
 use Rattle.kernels.proofs.Choices.{kernel_proper}
 use Rattle.trustregion.specs.Settings.{in_range, chosen}
 use Rattle.offer.specs.Offer.{start_checks}
-use Rattle.trustregion.specs.Session.{start}
+use Rattle.trustregion.specs.Session.{Session, start}
 use Rattle.offer.specs.State.{awaits_cost}
 use Rattle.offer.specs.Run.{Trial, run, final, calls, lent_same, Thinned}
 use Rattle.trustregion.specs.Run.{Station, Call, Entry, respond, never_reaches, strike}
 use Rattle.trustregion.specs.Demand3.{Fair, Within, Same_run, Demand_3, Too_hidden}
 use Rattle.trustregion.specs.declared.settings.Settings.{Settings}
-use Rattle.trustregion.specs.declared.session.Session.{Session}
 use Rattle.offer.proofs.Checks.{unless_elim, clash}
 use Rattle.offer.proofs.Runs.{Replays}
 use Rattle.trustregion.proofs.Answers.{joined}

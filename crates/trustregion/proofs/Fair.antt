@@ -15,12 +15,11 @@ use Rattle.vectors.proofs.Sizes.{both, each_holds}
 use Rattle.kernels.specs.Kernel.{Kernel, positive}
 use Rattle.trustregion.specs.Settings.{ranges, in_range}
 use Rattle.offer.specs.State.{Promise}
-use Rattle.trustregion.specs.Session.{sound, awaiting, rho, next_radius, settled}
+use Rattle.trustregion.specs.Session.{Session, sound, awaiting, rho, next_radius, settled}
 use Rattle.offer.specs.Run.{Trial, perform, run, Every}
 use Rattle.trustregion.specs.Run.{Station, Call, proposed, judged, renewed, Reply, Done, Entry, on_proposal, on_judgement, on_renewal, respond, trials}
 use Rattle.trustregion.specs.Demand3.{Fair, Within}
 use Rattle.trustregion.specs.declared.settings.Settings.{Settings}
-use Rattle.trustregion.specs.declared.session.Session.{Session}
 use Rattle.offer.proofs.Checks.{cond_elim}
 use Rattle.offer.proofs.Runs.{perform_elim, run_keeps}
 use Rattle.trustregion.proofs.Ends.{sound_tests}

@@ -1,16 +1,14 @@
 -- A run of a `TrustRegion` session, and the run with its NaN trials struck out. Definitions only. (What a run is, of either kind of session: `offer`'s specs/Run.antt.)
-use Rattle.std.specs.Prelude.{Bool, true, false, not, ◌&&◌, cond, List, [], ◌∷◌, ℕ, eqb, Float}
+use Rattle.std.specs.Prelude.{Bool, true, false, not, ◌&&◌, cond, List, [], ◌∷◌, Ok, Err, ℕ, eqb, Float}
 use Rattle.std.specs.Float.Ieee.{is_nan}
 use Rattle.vectors.specs.Refusal.{Answer, refused, given, left_in}
 use Rattle.kernels.specs.Kernel.{Kernel}
 use Rattle.offer.specs.Run as Run
 use Rattle.offer.specs.Run.{Vectors, Trial, trial_at, answered, proposing, was_refused}
-use Rattle.trustregion.specs.Session.{Proposal, proposal, Judgement, judgement, Renewal, renewal}
-use Rattle.offer.specs.State.{verdict_of, counted}
+use Rattle.trustregion.specs.Session.{Session, Proposal, proposal, Judgement, judgement, Renewal, renewal}
+use Rattle.offer.specs.State.{Outcome, verdict_of, counted}
 use Rattle.trustregion.specs.declared.settings.Settings.{Settings}
-use Rattle.trustregion.specs.declared.session.Session.{Session}
-use Rattle.offer.specs.declared.state.Outcome.{Outcome}
-use Rattle.offer.specs.declared.state.Outcome.TheVariants.{Refused, Proposed, Taken}
+use Rattle.offer.specs.declared.state.Said.TheVariants.{Proposed, Taken}
 
 -- ---- what is asked, and what is told
 
@@ -42,10 +40,10 @@ Entry = Run.Entry Request Told
 
 -- the reply as a call of the code says it
 abbrev pub outcome : Reply → Outcome
-outcome (refused r) = Refused r
-outcome (given (proposed step trial passes)) = Proposed passes
-outcome (given (judged t)) = verdict_of t.accepted t.ratio
-outcome (given renewed) = Taken
+outcome (refused r) = Err r
+outcome (given (proposed step trial passes)) = Ok (Proposed passes)
+outcome (given (judged t)) = Ok (verdict_of t.accepted t.ratio)
+outcome (given renewed) = Ok Taken
 
 -- ---- one call: its reply, and the station afterwards
 

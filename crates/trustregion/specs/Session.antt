@@ -1,6 +1,6 @@
 -- The `TrustRegion` session of document 01, on values: what each of its calls answers, for every input, refused ones too. Definitions only.
 -- A call is a function of the session, of n, and of the lent vectors as they are at entry. Its answer is a refusal, or all that the call changes.
-use Rattle.std.specs.Prelude.{Bool, not, ◌&&◌, cond, List, [], ◌∷◌, ℕ, ◌*◌, leb, Float}
+use Rattle.std.specs.Prelude.{Bool, not, ◌&&◌, cond, List, [], ◌∷◌, ℕ, ◌*◌, Float}
 use Rattle.std.specs.Float.Ieee.{lt, le}
 use Rattle.float.specs.Numbers.{◌⊕◌, ◌⊖◌, ◌⊗◌, finite, magnitude, smaller}
 use Rattle.float.specs.Constants.{two, half, quarter, three_quarters, ten_epsilons}
@@ -10,54 +10,51 @@ use Rattle.kernels.specs.Kernel.{Kernel}
 use Rattle.kernels.specs.Ratio.{reduction_ratio}
 use Rattle.vectors.specs.declared.refusal.Refusal.TheVariants.{Size, Setting, Turn, Entry, Range}
 use Rattle.trustregion.specs.Settings.{in_range}
-use Rattle.offer.specs.Offer.{cost_taken, start_checks, proposal_checks, Offer, offer, stepping}
-use Rattle.offer.specs.State.{begin, moved, in_phase, counted, steady, awaits_derivatives, Promise, promised}
+use Rattle.offer.specs.Offer.{cost_taken, Offer, offer}
+use Rattle.offer.specs.State.{moved, counted, awaits_derivatives, Promise, promised}
+use Rattle.offer.specs.Session as any
+use Rattle.offer.specs.declared.session.Session as sessions
 use Rattle.trustregion.specs.declared.settings.Settings.{Settings}
-use Rattle.trustregion.specs.declared.session.Session.{Session}
 use Rattle.offer.specs.declared.state.State.{State}
-use Rattle.offer.specs.declared.state.Phase.TheVariants.{Ready, AwaitingCost, AwaitingDerivatives}
+use Rattle.offer.specs.declared.state.Phase.TheVariants.{Ready, AwaitingDerivatives}
 
--- not "a setting out of range or not finite, or a session with negative or not finite radius, or cost not finite"; "a session checks all settings of its kind, whatever its kernel";
--- nor "a count above" the allowance
+abbrev pub Session : Type 0
+Session = sessions.Session Settings
+
+-- ---- what it has of every kind of session, by `offer`'s specs/Session.antt
+
+-- "m = (f + p·g) + 0.5·(p·H·p)"
+abbrev pub model_value : (f slope curvature : Float) → Float
+model_value f slope curvature = f ⊕ slope ⊕ half ⊗ curvature
+
+abbrev pub kind : any.Kind Settings
+kind = record { in_range = in_range; choice = λ t. t.choice; allowance = λ t. t.allowance; first_radius = λ t. t.radius; promise = model_value }
+
+-- what refusal 2 asks of it
 unfoldable pub sound : Session → Bool
 unfolding in_range finite
-sound s = all_hold (in_range s.settings ∷ steady s.state ∷ leb s.state.count s.settings.allowance ∷ [])
+sound = any.sound kind
 
 -- the session in another state
 abbrev pub turned : Session → State → Session
-turned s state = record { settings = s.settings; state = state }
-
--- ---- start: "takes settings and cost only"
+turned = any.turned
 
 unfoldable pub start : Settings → Float → Answer Session
 unfolding in_range finite
-start settings f = unless (start_checks (in_range settings) f) (given (record { settings = settings; state = begin settings.radius f }))
+start = any.start kind
 
--- ---- propose
-
-pub record Proposal : Type 0 where
-  pub session : Session
-  pub offer : Offer
-
--- "m = (f + p·g) + 0.5·(p·H·p)"
-unfoldable pub model_value : ℕ → (f : Float) → (gradient hessian step : List Float) → Float
-unfolding dot weighted
-model_value n f gradient hessian step = f ⊕ dot step gradient ⊕ half ⊗ weighted n step hessian step
+abbrev pub Proposal : Type 0
+Proposal = any.Proposal Settings
 
 -- "keeps ‖p‖ and m"
 unfoldable pub awaiting : Session → ℕ → (gradient hessian : List Float) → Offer → Proposal
-unfolding model_value norm
-awaiting s n gradient hessian o = record {
-  session = turned s (in_phase (AwaitingCost (model_value n s.state.cost gradient hessian o.step) (norm o.step)) s.state);
-  offer = o;
-}
+unfolding dot weighted norm
+awaiting = any.awaiting kind
 
 -- refusals 1 to 4, and then those of `stepping`, 5, 9 and 6 to 8
 unfoldable pub proposal : (Settings → Kernel) → Session → ℕ → (point gradient hessian step trial scratch : List Float) → Answer Proposal
 unfolding size sound all_finite offer awaiting
-proposal kernel s n point gradient hessian step trial scratch =
-    unless (proposal_checks (sound s) s.state n point gradient hessian step trial scratch)
-    (then (λ (o : Offer). given (awaiting s n gradient hessian o)) (stepping (kernel s.settings) s.settings.allowance s.state n point gradient hessian))
+proposal = any.proposal kind
 
 -- ---- the answer with a cost F
 

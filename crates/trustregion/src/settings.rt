@@ -1,11 +1,13 @@
 // What argmin's TrustRegion is made with.
 ghost use Rattle.std.specs.Prelude.{◌≡◌};
 ghost use Rattle.trustregion.specs.Settings.{by_default, settings_of, allowing, in_range};
+ghost use Rattle.trustregion.specs.Session as Definition;
+ghost use Rattle.trustregion.specs.Laws.{lawful};
 
 use kernels::choice::Choice;
 use kernels::{choice, kernel};
+use offer::session::Kind;
 use offer::state;
-use vectors::refusal;
 
 #[derive(Clone, Copy)]
 pub struct Settings {
@@ -38,15 +40,16 @@ impl Settings {
         ensures { result ≡ settings_of choice radius max_radius eta }
     {
         Self {
-            choice: choice,
-            radius: radius,
-            max_radius: max_radius,
-            eta: eta,
+            choice,
+            radius,
+            max_radius,
+            eta,
             allowance: Self::ALLOWANCE,
         }
     }
 
-    // At most so many hidden trials in a row.
+    // At most so many hidden trials in a row. SR1's settings have a function as this of their own: one for both, in the trait `Kind`,
+    // would ask each for a setter besides.
     pub fn with_allowance(mut self, allowance: u64) -> Self
         ensures { result ≡ allowing allowance self }
     {
@@ -56,17 +59,49 @@ impl Settings {
 }
 
 // Every setting is checked, whatever the kernel.
+#[tactic(auto, unfolding(crate::specs::Settings::in_range))]
 pub fn in_range(t: Settings) -> bool
     ensures { result ≡ in_range t }
 {
-    let choice = t.choice;
-    refusal::all_hold(&[
-        choice::in_range(choice),
-        kernel::positive(t.radius),
-        kernel::positive(t.max_radius),
-        float::finite(t.eta),
-        0.0 <= t.eta,
-        t.eta < 0.25,
-        state::allowable(t.allowance),
-    ])
+    choice::in_range(t.choice)
+        && kernel::positive(t.radius)
+        && kernel::positive(t.max_radius)
+        && float::finite(t.eta)
+        && 0.0 <= t.eta
+        && t.eta < 0.25
+        && state::allowable(t.allowance)
+}
+
+// The model at the trial: (f + p·g) + 0.5·(p·H·p).
+fn model_value(cost: f64, slope: f64, curvature: f64) -> f64
+    ensures { result ≡ Definition.model_value cost slope curvature }
+{
+    float::one_nan(cost + slope + 0.5 * curvature)
+}
+
+impl Kind for Settings {
+    ghost kind = { Definition.kind };
+
+    ghost laws = { lawful };
+
+    fn in_range(self) -> bool {
+        in_range(self)
+    }
+
+    fn choice(self) -> Choice {
+        self.choice
+    }
+
+    fn allowance(self) -> u64 {
+        self.allowance
+    }
+
+    fn first_radius(self) -> f64 {
+        self.radius
+    }
+
+    // A step is promised on its model value.
+    fn promise(cost: f64, slope: f64, curvature: f64) -> f64 {
+        model_value(cost, slope, curvature)
+    }
 }

@@ -1,4 +1,3 @@
-use Prim.Native.Nat.{◌-◌}
 use lib.ListN.{length}
 use Rattle.vectors.specs.Vector.{at}
 use Rattle.vectors.proofs.Slots.{Writing}
@@ -6,6 +5,3 @@ use Rattle.offer.proofs.lent.copy.Given as goal
 
 abbrev pub invariant-loop-i : goal.invariant-loop-i
 invariant-loop-i l = Writing l.initial.to (length l.from) 0 (at l.from) l.to l.i
-
-abbrev pub decreases-loop-i : goal.decreases-loop-i
-decreases-loop-i l = length l.initial.to - l.i

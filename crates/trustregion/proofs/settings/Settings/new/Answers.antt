@@ -1,6 +1,0 @@
--- `trustregion::settings::Settings::new` meets its contract. Assumes nothing.
-use mathlib.Core.Path.{◌∙◌}
-use Rattle.trustregion.proofs.settings.Settings.new.Goals as goal
-
-pub returns : goal.returns
-returns c = c.of.ensures ∙ rw c.new-choice.ensures

@@ -1,9 +1,0 @@
--- `trustregion::settings::in_range` meets its contract. Assumes nothing.
-use mathlib.Core.Path.{◌∙◌}
-use Rattle.trustregion.specs.Settings.{in_range}
-use Rattle.trustregion.proofs.settings.in_range.Goals as goal
-
-pub returns : goal.returns
-unfolding in_range
-returns c =
-    c.all_hold.ensures ∙ rw (c.in_range.ensures, c.positive.ensures, c.positive-2.ensures, c.finite.ensures, c.allowable.ensures)

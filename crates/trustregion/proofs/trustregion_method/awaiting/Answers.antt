@@ -1,9 +1,0 @@
--- `trustregion::trustregion_method::awaiting` meets its contract. Assumes nothing.
-use mathlib.Core.Path.{◌∙◌}
-use Rattle.trustregion.proofs.trustregion_method.awaiting.Goals as goal
-
-pub returns-in-Refused : goal.returns-in-Refused
-returns-in-Refused c = rw c.in-Refused.is c.refusing.ensures
-
-pub returns-in-Step : goal.returns-in-Step
-returns-in-Step c = rw c.in-Step.is (c.answering.ensures ∙ rw (c.in_phase-next.ensures, c.model_value-model.ensures))
