@@ -13,13 +13,12 @@ use Rattle.kernels.specs.Dogleg.{dogleg}
 use Rattle.kernels.specs.Textbook.{textbook_dogleg}
 use Rattle.kernels.specs.Steihaug.{steihaug}
 use Rattle.trustregion.specs.Settings.{settings_of}
-use Rattle.trustregion.specs.Session.{Judgement, judgement}
-use Rattle.trustregion.specs.declared.session.Session.{Session}
+use Rattle.trustregion.specs.Session.{Session, Judgement, judgement}
 use Rattle.offer.specs.declared.state.Phase.{Phase}
 use Rattle.offer.specs.declared.state.Phase.TheVariants.{Ready, AwaitingCost, AwaitingDerivatives}
 use Rattle.sr1.specs.Settings as sr1_settings
 use Rattle.sr1.specs.Session as sr1
-use Rattle.sr1.specs.declared.session.Session.{Session as Sr1}
+use Rattle.sr1.specs.Session.{Session as Sr1}
 
 infix 30 ◌over◌
 infix 30 minus◌over◌
