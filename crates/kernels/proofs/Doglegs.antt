@@ -6,16 +6,15 @@ use Prim.Native.Nat.{ℕ, zero, suc}
 use lib.ListN.{length}
 use lib.Ieee.{Float, lt, le, neg}
 use Rattle.std.specs.Prelude.{Result, Err}
-use Rattle.float.specs.Numbers.{◌⊕◌, ◌⊖◌, ◌⊗◌, ◌⊘◌, square}
-use Rattle.float.specs.Constants.{nought, one, two}
-use Rattle.root.specs.Root.{root}
+use Rattle.float.specs.Numbers.{◌⊖◌, square}
+use Rattle.float.specs.Constants.{one}
 use Rattle.vectors.specs.Vector.{dot, norm, weighted, plus, minus, scale}
 use Rattle.vectors.specs.Slots.{slot, Puts}
 use Rattle.kernels.specs.Workspace.{each}
 use Rattle.vectors.specs.Refusal.{Answer, refused, given, then}
 use Rattle.kernels.specs.Kernel.{Made, made, handed_out, Proper, Reached}
 use Rattle.kernels.specs.Inverse.{Rows, found, column_by, column, columns, eliminated, inverse_times, entry, pivot_bound, no_pivot, pivot_row, swapped, divided, cleared, start}
-use Rattle.kernels.specs.Dogleg.{candidates, keep, tau, bent, measured, outside, towards, unconstrained, dogleg_step, newton, between, dogleg, Measures_in}
+use Rattle.kernels.specs.Dogleg.{tau, bent, measured, outside, towards, unconstrained, dogleg_step, newton, between, dogleg, Measures_in}
 use Rattle.vectors.specs.declared.refusal.Refusal.TheVariants.{Pivot}
 use Rattle.kernels.specs.declared.dogleg.Measures.{Measures}
 use Rattle.kernels.specs.declared.kernel.Stepped.{Stepped}
@@ -94,11 +93,6 @@ dogleg_proper n radius g H = between_proper dogleg_step n radius g H (step_long 
 
 -- ---- each function, from what it read and wrote
 
-pub taus : (c k u D t first second r : Float) → t ≡ root (square c ⊕ D ⊗ k ⊖ k ⊗ u) → first ≡ keep nought (neg (t ⊕ c ⊖ k) ⊘ k) → second ≡ keep first ((t ⊖ c ⊕ k) ⊘ k)
-    → r ≡ keep second ((two ⊗ c ⊕ D ⊖ u) ⊘ (two ⊗ c)) → r ≡ tau c k u D
-unfolding candidates
-taus c k u D t first second r a b e f = f ∙ rw (e, b, a)
-
 module _ (n : ℕ) (tau : Float) (w w' : List Float) where
   pub bent_first : lt tau one ≡ true → Puts w n 0 (each n (Times tau) (slot w n 1) (slot w n 1)) w' → slot w' n 0 ≡ bent n tau (slot w n 1) (slot w n 2)
   unfolding bent
@@ -120,10 +114,6 @@ module _ (n : ℕ) (g H : List Float) (f : Bool) (R : Rows) (e : found f R ≡ e
   newtons w w₁ w₂ h p q =
       let turned : slot w₂ n 0 ≡ scale n (inverse_times n R g) (neg one) = q 0 ∙ each_times n (slot w₁ n 0) (slot w₁ n 0) (neg one) ∙ rw (p 0) in
       rw (← found_rows f R (eliminated n H) e h, turned)
-
-pub unconstraineds : (n : ℕ) (x curvature : Float) (g w w' : List Float) → x ≡ dot g g → Puts w n 1 (scale n g (neg x ⊘ curvature)) w' → Puts w n 1 (towards n g curvature) w'
-unfolding towards
-unconstraineds n x curvature g w w' e p = rw e at p
 
 pub measured_here : (n : ℕ) (w w' : List Float) (m : Measures) → Puts w n 2 (each n Minus (slot w n 0) (slot w n 1)) w'
     → m.c ≡ dot (slot w' n 1) (slot w' n 2) → m.k ≡ dot (slot w' n 2) (slot w' n 2) → m.u ≡ dot (slot w' n 1) (slot w' n 1) → Measures_in n w m w'

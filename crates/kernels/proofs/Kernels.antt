@@ -164,10 +164,6 @@ pub laid_refused : (n : ℕ) (a : Answer Made) (r : Result Stepped Refusal) (w w
 laid_refused n (refused x) r w w₁ w₂ p l h t z = record { says = h.says; lays = z ∙ ap zeros l ∙ rw p }
 laid_refused n (given m) r w w₁ w₂ p l h t z = absurd (let e : false ≡ true = sym (ap is_err h.says) ∙ t in cc)
 
-pub laid_made : (a : Answer Made) (r : Result Stepped Refusal) (w w₁ : List Float) → Reached a r w w₁ → is_err r ≡ false → Laid a r w w₁
-laid_made (refused x) r w w₁ h t = absurd (let e : true ≡ false = sym (ap is_err h.says) ∙ t in cc)
-laid_made (given m) r w w₁ h t = record { says = h.says; lays = h.lays }
-
 -- `settle_by`: the norm of the step alone tells whether it is sound
 module _ (n passes : ℕ) (w : List Float) (long : Float) (is : long ≡ norm (slot w n 0)) where
   known : (b : Bool) → finite long ≡ b → sound_step (slot w n 0) ≡ b

@@ -1,6 +1,6 @@
 -- Laws of Steihaug's roots and passes. Assumes nothing.
 use mathlib.Core.Path.{◌≡◌, refl, ◌∙◌, ap, subst}
-use mathlib.Core.Bool.{Bool, true, false, cond, ◌&&◌, ◌||◌}
+use mathlib.Core.Bool.{Bool, true, false, cond, ◌||◌}
 use mathlib.Core.List.{List, [], ◌∷◌, ◌++◌, map}
 use Prim.Native.Nat.{ℕ, zero, suc, ◌+◌, ◌*◌, ◌-◌, ◌<◌, ◌≤◌}
 use native.Mathlib.Numerals.{add-one}
@@ -9,16 +9,15 @@ use lib.ListN.{length, take}
 use lib.Seq.{take_at, length-take-le}
 use lib.Ieee.{Float, lt, le, neg, is_nan}
 use Rattle.std.specs.Prelude.{None, Some, Result}
-use Rattle.float.specs.Numbers.{◌⊕◌, ◌⊖◌, ◌⊗◌, ◌⊘◌, square, finite}
-use Rattle.float.specs.Constants.{nought, one, two, half}
+use Rattle.float.specs.Numbers.{◌⊗◌, ◌⊘◌}
+use Rattle.float.specs.Constants.{nought, one}
 use Rattle.float.proofs.Order.{lt_self}
-use Rattle.root.specs.Root.{root}
 use Rattle.vectors.specs.Slots.{slot, Puts}
-use Rattle.vectors.specs.Vector.{dot, norm, times, weighted, scale, zeros}
+use Rattle.vectors.specs.Vector.{dot, norm, times, scale, zeros}
 use Rattle.kernels.specs.Workspace.{each}
 use Rattle.vectors.specs.Refusal.{Answer, refused, given, then, untouched_by}
 use Rattle.kernels.specs.Kernel.{Made, made, handed_out, Proper, Reached}
-use Rattle.kernels.specs.Steihaug.{roots, roots_at, listed, ahead, model, valued, lesser, any_nan, by_model, larger, largest_from, forward, State, Pass, stops, goes_on, after, stops_at, curved, crossing, onward, straight, pass, run, steihaug, start, state_in, Keeps}
+use Rattle.kernels.specs.Steihaug.{roots_at, listed, ahead, model, valued, lesser, any_nan, by_model, larger, largest_from, forward, State, Pass, stops, goes_on, after, stops_at, curved, crossing, onward, straight, pass, run, steihaug, start, state_in, Keeps}
 use Rattle.kernels.specs.declared.kernel.Stepped.{Stepped}
 use Rattle.vectors.specs.declared.refusal.Refusal.{Refusal}
 use Rattle.vectors.specs.declared.refusal.Refusal.TheVariants.{Root}
@@ -30,33 +29,7 @@ use Rattle.kernels.proofs.Ops.{each_same, each_plus_times, each_turned_plus_time
 use Rattle.vectors.proofs.Slots.{length_slot}
 use Rattle.kernels.proofs.Kernels.{Late, then_handed, reached_same}
 
--- ---- roots
-
-module _ (a b c D t : Float) (is : t ≡ root (neg a ⊗ b ⊕ b ⊗ D ⊕ square c)) where
-  abbrev first : Float
-  first = neg (t ⊕ c) ⊘ b
-
-  abbrev second : Float
-  second = (t ⊖ c) ⊘ b
-
-  pub two_roots : (finite first && finite second) ≡ true → first ∷ second ∷ [] ≡ roots a b c D
-  unfolding roots
-  two_roots e = rw (← is, e)
-
-  pub three_roots : (finite first && finite second) ≡ false → first ∷ second ∷ (D ⊖ a) ⊘ (two ⊗ c) ∷ [] ≡ roots a b c D
-  unfolding roots
-  three_roots e = rw (← is, e)
-
-pub roots_here : (radius : Float) (p d ts : List Float) (a b c : Float) → a ≡ dot p p → b ≡ dot d d → c ≡ dot p d → ts ≡ roots a b c (square radius)
-    → ts ≡ roots_at radius p d
-unfolding roots_at
-roots_here radius p d ts a b c e f g h = rw (← e, ← f, ← g) h
-
 -- ---- by model
-
-pub model_here : (n : ℕ) (g H x v : List Float) (a b : Float) → x ≡ v → a ≡ dot g x → b ≡ weighted n x H x → a ⊕ half ⊗ b ≡ model n g H v
-unfolding model
-model_here n g H x v a b i e f = rw (← i, ← e, ← f)
 
 pub valued_here : (w w' g H : List Float) (n : ℕ) (tau m : Float) → Puts w n 6 (each n (PlusTimes tau) (slot w n 0) (slot w n 2)) w'
     → m ≡ model n g H (slot w' n 6) → ◌≡◌ {A = Valued} (record { tau = tau; model = m }) (valued n g H (slot w n 0) (slot w n 2) tau)
@@ -102,17 +75,6 @@ module _ (n : ℕ) (g H w w₁ w₂ : List Float) (ts : Roots) (a b : Valued) (o
     of_three w₃ z c i m h j =
         let third-here : c ≡ models w z = let p = l.0 ∙ k.0 in let d = l.1 ∙ k.1 in cc in
         (j ∙ rw (h, e, second_here, third-here), (m.0 ∙ l.0 ∙ k.0, m.1 ∙ l.1 ∙ k.1))
-
--- ---- forward
-
-module _ (ts : Roots) (a b : Answer Float) (e : a ≡ larger (refused Root) ts.first) (f : b ≡ larger a ts.second) where
-  pub ahead_of_two : ts.third ≡ None → b ≡ forward (listed ts)
-  unfolding forward
-  ahead_of_two h = rw (h, ← e) f
-
-  pub ahead_of_three : (z : Float) (c : Answer Float) → ts.third ≡ Some z → c ≡ larger b z → c ≡ forward (listed ts)
-  unfolding forward
-  ahead_of_three z c h i = rw (h, ← e, ← f) i
 
 -- ---- what a write leaves in its slot
 

@@ -6,9 +6,8 @@ use Prim.Native.Nat.{ℕ}
 use lib.ListN.{length}
 use lib.Ieee.{Float, lt, le}
 use Rattle.std.specs.Prelude.{Result}
-use Rattle.float.specs.Numbers.{◌⊕◌, ◌⊖◌, ◌⊗◌, ◌⊘◌, square}
+use Rattle.float.specs.Numbers.{◌⊘◌, square}
 use Rattle.float.specs.Constants.{nought}
-use Rattle.root.specs.Root.{root}
 use Rattle.vectors.specs.Vector.{norm, weighted, minus, scale}
 use Rattle.vectors.specs.Slots.{slot, Puts}
 use Rattle.kernels.specs.Workspace.{each}
@@ -46,10 +45,6 @@ textbook_proper n radius g H = pick (lt nought (weighted n g H g)) where
   pick false = cauchy_proper n radius g H
 
 -- ---- each function, from what it read and wrote
-
-pub alongs : (c k u D t : Float) → t ≡ root (square c ⊕ k ⊗ (D ⊖ u)) → (t ⊖ c) ⊘ k ≡ along c k u D
-unfolding along
-alongs c k u D t e = rw e
 
 -- `outside`: pu in slot 1, and ‖pu‖ is y
 module _ (n : ℕ) (radius y curvature : Float) (g w w₁ w₂ : List Float) (p : Puts w n 1 (towards n g curvature) w₁) (f : y ≡ norm (slot w₁ n 1)) where

@@ -26,6 +26,7 @@ fn tau(radius: f64, curvature: f64, norm: f64) -> f64
 }
 
 // What g is multiplied by.
+#[tactic(auto, unfolding(crate::specs::CauchyPoint::factor))]
 fn factor(radius: f64, curvature: f64, norm: f64) -> f64
     ensures { result ≡ CauchyPoint.factor radius curvature norm }
 {

@@ -26,10 +26,20 @@ fn keep(held: f64, t: f64) -> f64
     }
 }
 
+// c, k and u.
+#[derive(Clone, Copy)]
+pub struct Measures {
+    pub c: f64,
+    pub k: f64,
+    pub u: f64,
+}
+
 // How far along the bent path: its first leg ends at 1, its second at 2.
-fn tau(c: f64, k: f64, u: f64, delta_squared: f64) -> f64
-    ensures { result ≡ Dogleg.tau c k u delta_squared }
+#[tactic(auto, unfolding(crate::specs::Dogleg::candidates))]
+fn tau(m: Measures, delta_squared: f64) -> f64
+    ensures { result ≡ Dogleg.tau m.c m.k m.u delta_squared }
 {
+    let Measures { c, k, u } = m;
     let t = root::root(c * c + delta_squared * k - k * u);
     let first = keep(0.0, -(t + c - k) / k);
     let second = keep(first, (t - c + k) / k);
@@ -46,14 +56,6 @@ fn bent(n: usize, w: &mut [f64], tau: f64)
     } else {
         workspace::each(n, w, 0, Op::PlusTimes(tau - 1.0), 1, 2);
     }
-}
-
-// c, k and u.
-#[derive(Clone, Copy)]
-pub struct Measures {
-    pub c: f64,
-    pub k: f64,
-    pub u: f64,
 }
 
 // Slot 0 takes pb, unless the inverse is refused.
@@ -104,8 +106,8 @@ fn step(problem: &Subproblem, w: &mut [f64])
     }
     let curvature = problem.curvature(problem.gradient);
     unconstrained(n, w, problem.gradient, curvature);
-    let m = measure(n, w);
-    bent(n, w, tau(m.c, m.k, m.u, problem.radius * problem.radius));
+    let tau = tau(measure(n, w), problem.radius * problem.radius);
+    bent(n, w, tau);
 }
 
 // The kernel, over a scratch of the right size.

@@ -69,6 +69,7 @@ fn roots_of(a: f64, b: f64, c: f64, delta: f64) -> Roots
     }
 }
 
+#[tactic(auto, unfolding(crate::specs::Steihaug::roots_at))]
 fn roots_at(n: usize, w: &[f64], radius: f64) -> Roots
     requires { 8 * n ≤ length w.now }
     ensures { listed result ≡ Steihaug.roots_at radius (slot w.now n 0) (slot w.now n 2) }
@@ -257,8 +258,7 @@ fn settle(n: usize, w: &mut [f64], end: Exit) -> Result<Stepped, Refusal>
 {
     match end {
         Exit::Limit(passes) => kernel::settle(n, w, passes),
-        Exit::Boundary(passes) => settle_chosen(n, w, passes),
-        Exit::Inside(passes) => settle_chosen(n, w, passes),
+        Exit::Boundary(passes) | Exit::Inside(passes) => settle_chosen(n, w, passes),
     }
 }
 

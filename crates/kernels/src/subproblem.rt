@@ -28,6 +28,7 @@ impl Subproblem<'_> {
     }
 
     // m(x) − f
+    #[tactic(auto, unfolding(crate::specs::Steihaug::model))]
     pub(crate) fn model(&self, x: &[f64]) -> f64
         requires { length x.now ≡ self.now.n }
         ensures { result ≡ model self.now.n self.now.gradient.now self.now.hessian.now x.now }

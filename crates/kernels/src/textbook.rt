@@ -9,6 +9,7 @@ ghost use Rattle.kernels.specs.Dogleg as Dogleg;
 ghost use Rattle.kernels.specs.Textbook as Textbook;
 
 use crate::choice::Kernel;
+use crate::dogleg::Measures;
 use crate::kernel::Stepped;
 use crate::subproblem::Subproblem;
 use crate::workspace::Op;
@@ -17,9 +18,11 @@ use vectors::refusal::Refusal;
 use vectors::vector;
 
 // How far along v the second leg meets the radius.
-fn along(c: f64, k: f64, u: f64, delta_squared: f64) -> f64
-    ensures { result ≡ Textbook.along c k u delta_squared }
+#[tactic(auto, unfolding(crate::specs::Textbook::along))]
+fn along(m: Measures, delta_squared: f64) -> f64
+    ensures { result ≡ Textbook.along m.c m.k m.u delta_squared }
 {
+    let Measures { c, k, u } = m;
     (root::root(c * c + k * (delta_squared - u)) - c) / k
 }
 
@@ -38,8 +41,7 @@ fn outside(problem: &Subproblem, curvature: f64, w: &mut [f64])
         workspace::each(n, w, 0, Op::Times(problem.radius / norm), 1, 1);
         return;
     }
-    let m = dogleg::measure(n, w);
-    let far = along(m.c, m.k, m.u, problem.radius * problem.radius);
+    let far = along(dogleg::measure(n, w), problem.radius * problem.radius);
     workspace::each(n, w, 0, Op::PlusTimes(far), 1, 2);
 }
 

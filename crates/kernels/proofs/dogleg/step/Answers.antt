@@ -7,4 +7,4 @@ returns-then-norm-problem c = inside _ _ _ _ _ _ c.norm.ensures c.if-norm-proble
 
 pub returns : goal.returns
 returns c =
-    outsides _ _ _ _ _ _ c.norm.ensures _ _ _ _ _ _ c.if-norm-problem.false c.curvature-curvature.ensures c.unconstrained.ensures c.measure-m.ensures c.tau.ensures c.bent.ensures
+    outsides _ _ _ _ _ _ c.norm.ensures _ _ _ _ _ _ c.if-norm-problem.false c.curvature-curvature.ensures c.unconstrained.ensures c.measure.ensures c.tau-tau.ensures c.bent.ensures

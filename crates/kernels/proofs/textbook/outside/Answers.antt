@@ -8,4 +8,4 @@ returns-then-norm-problem c =
 
 pub returns : goal.returns
 returns c =
-    on_second _ _ _ _ _ _ _ _ c.unconstrained.ensures c.norm-norm.ensures _ _ _ c.if-norm-problem.false c.measure-m.ensures c.along-far.ensures c.each-2.ensures
+    on_second _ _ _ _ _ _ _ _ c.unconstrained.ensures c.norm-norm.ensures _ _ _ c.if-norm-problem.false c.measure.ensures c.along-far.ensures c.each-2.ensures
