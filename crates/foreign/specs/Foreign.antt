@@ -1,25 +1,18 @@
--- What is handed over where an enum cannot go: 0 for a result, or the refusal's number. Definitions only.
-use Rattle.std.specs.Prelude.{◌≡◌, List, ℕ, Float}
+-- What is handed over where a Result cannot go: 0 for a result, or the refusal's number. Definitions only.
+use Rattle.std.specs.Prelude.{◌≡◌, List, Result, Ok, Err, ℕ, Float}
 use Rattle.vectors.specs.Refusal.{Answer, refused, given, number, left_in, scratch_after}
-use Rattle.vectors.specs.declared.refusal.Outcome.{Outcome}
-use Rattle.vectors.specs.declared.refusal.Outcome.TheVariants as out
+use Rattle.vectors.specs.declared.refusal.Refusal.{Refusal}
 use Rattle.kernels.specs.Kernel.{Made}
-use Rattle.kernels.specs.declared.kernel.Stepped.{Stepped}
-use Rattle.kernels.specs.declared.kernel.Stepped.TheVariants as step
 
 -- the number of an answer that is none, and 0 for one
 abbrev pub code : {A : Type 0} → Answer A → ℕ
 code (refused r) = number r
 code (given a) = 0
 
--- the same of the enums that stand for answers
-abbrev pub outcome : Outcome → ℕ
-outcome out.Written = 0
-outcome (out.Refused r) = number r
-
-abbrev pub stepped_number : Stepped → ℕ
-stepped_number (step.In k norm) = 0
-stepped_number (step.Refused r) = number r
+-- the same of a result, by which the code tells an answer
+abbrev pub result_code : {A : Type 0} → Result A Refusal → ℕ
+result_code (Ok a) = 0
+result_code (Err r) = number r
 
 -- ---- each call: r is what it returns; what it is lent is that at entry, that with a prime at exit
 

@@ -1,8 +1,8 @@
 // The functions as C and Rust may call them. All that a library exports stands here and in foreign_sessions, by a name that begins with
-// mboyaxin_. An enum cannot cross that border: what may be refused returns the refusal's number, 0 for none, and writes what it
+// mboyaxin_. A Result cannot cross that border: what may be refused returns the refusal's number, 0 for none, and writes what it
 // gives where it is told, which a refusal leaves as it was. The benchmarks time the root and the kernels here, and what reads the bits of
 // a NaN from outside calls the rest.
-#![tactic(auto)]
+#![tactic(auto, using(crate::proofs::Codes::fills, crate::proofs::Codes::clears, crate::proofs::Codes::numbers))]
 
 ghost use Rattle.std.specs.Prelude.{◌≡◌, true};
 ghost use Rattle.std.specs.Float.{binary64};
@@ -21,9 +21,7 @@ ghost use Rattle.kernels.specs.Inverse.{inverse_answer};
 ghost use Rattle.foreign.specs.Foreign as Foreign;
 ghost use Rattle.foreign.specs.Foreign.{Numbered, Filled, Cleared};
 
-use kernels::kernel::Stepped;
-use vectors::refusal::Outcome;
-use vectors::vector::Number;
+use vectors::refusal::Refusal;
 
 // ---- scalars
 
@@ -69,18 +67,27 @@ pub extern "C" fn mboyaxin_bits_of(x: f64) -> u64
     float::bits_of(x)
 }
 
-// ---- numbers of lists
+// ---- what may be refused
 
-fn write(found: Number, out: &mut f64) -> u64
-    ensures { Filled (tells found) result out.old out.new }
+// The refusal's number, and 0 for none.
+fn code<T: Copy>(found: Result<T, Refusal>) -> u64
+    ensures { result ≡ Foreign.result_code found }
 {
     match found {
-        Number::Is(x) => {
-            *out = x;
-            0
-        }
-        Number::Refused(r) => vectors::refusal::number(r),
+        Ok(_) => 0,
+        Err(r) => u64::from(r),
     }
+}
+
+// ---- numbers of lists
+
+fn write(found: Result<f64, Refusal>, out: &mut f64) -> u64
+    ensures { Filled (tells found) result out.old out.new }
+{
+    if let Ok(x) = found {
+        *out = x;
+    }
+    code(found)
 }
 
 #[unsafe(no_mangle)]
@@ -145,20 +152,11 @@ pub extern "C" fn mboyaxin_reduction_ratio(
 
 // ---- lists
 
-fn outcome(found: Outcome) -> u64
-    ensures { result ≡ Foreign.outcome found }
-{
-    match found {
-        Outcome::Written => 0,
-        Outcome::Refused(r) => vectors::refusal::number(r),
-    }
-}
-
 #[unsafe(no_mangle)]
 pub extern "C" fn mboyaxin_product(n: usize, h: &[f64], d: &[f64], out: &mut [f64]) -> u64
     ensures { Filled (product_answer n h.now d.now out.old) result out.old out.new }
 {
-    outcome(vectors::vector::product(n, h, d, out))
+    code(vectors::vector::product(n, h, d, out))
 }
 
 #[unsafe(no_mangle)]
@@ -166,19 +164,10 @@ pub extern "C" fn mboyaxin_inverse(n: usize, h: &[f64], out: &mut [f64], scratch
     ensures { Cleared (inverse_answer n h.now out.old scratch.old)
         result out.old out.new scratch.old scratch.new }
 {
-    outcome(kernels::inverse::inverse(n, h, out, scratch))
+    code(kernels::inverse::inverse(n, h, out, scratch))
 }
 
 // ---- kernels, all of one shape: Cauchy and Dogleg pass over epsilon and limit
-
-fn stepped(found: Stepped) -> u64
-    ensures { result ≡ Foreign.stepped_number found }
-{
-    match found {
-        Stepped::In(_, _) => 0,
-        Stepped::Refused(r) => vectors::refusal::number(r),
-    }
-}
 
 #[unsafe(no_mangle)]
 pub extern "C" fn mboyaxin_cauchy_point(
@@ -194,7 +183,7 @@ pub extern "C" fn mboyaxin_cauchy_point(
     ensures { Numbered (called true cauchy_point n radius gradient.now hessian.now step.old scratch.old)
         result step.old step.new scratch.old scratch.new }
 {
-    stepped(kernels::cauchypoint::cauchy_point(n, radius, gradient, hessian, step, scratch))
+    code(kernels::cauchypoint::cauchy_point(n, radius, gradient, hessian, step, scratch))
 }
 
 #[unsafe(no_mangle)]
@@ -211,7 +200,7 @@ pub extern "C" fn mboyaxin_dogleg(
     ensures { Numbered (called true dogleg n radius gradient.now hessian.now step.old scratch.old)
         result step.old step.new scratch.old scratch.new }
 {
-    stepped(kernels::dogleg::dogleg(n, radius, gradient, hessian, step, scratch))
+    code(kernels::dogleg::dogleg(n, radius, gradient, hessian, step, scratch))
 }
 
 #[unsafe(no_mangle)]
@@ -228,7 +217,7 @@ pub extern "C" fn mboyaxin_textbook_dogleg(
     ensures { Numbered (called true textbook_dogleg n radius gradient.now hessian.now step.old scratch.old)
         result step.old step.new scratch.old scratch.new }
 {
-    stepped(kernels::textbook::textbook_dogleg(n, radius, gradient, hessian, step, scratch))
+    code(kernels::textbook::textbook_dogleg(n, radius, gradient, hessian, step, scratch))
 }
 
 #[unsafe(no_mangle)]
@@ -245,7 +234,5 @@ pub extern "C" fn mboyaxin_steihaug(
     ensures { Numbered (called (bounded epsilon limit) (steihaug epsilon limit) n radius gradient.now hessian.now step.old scratch.old)
         result step.old step.new scratch.old scratch.new }
 {
-    stepped(kernels::steihaug::steihaug(
-        n, radius, epsilon, limit, gradient, hessian, step, scratch,
-    ))
+    code(kernels::steihaug::steihaug(n, radius, epsilon, limit, gradient, hessian, step, scratch))
 }
