@@ -1,4 +1,5 @@
 pub mod Ops
+pub mod Parts
 pub mod Rows
 pub mod Ends
 pub mod Cases

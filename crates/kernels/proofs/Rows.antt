@@ -120,37 +120,28 @@ clears w w₁ n j i x e s a = (rows_put w w₁ n i _ a ∙ rw (s, each_less_time
 
 -- ---- a loop that writes slots b, b + 1 ..
 
--- after i turns over the list old, slots b to b + i - 1 are f 0 to f (i - 1)
-pub record Laying (old : List Float) (n b : ℕ) (f : ℕ → List Float) (w : List Float) (i : ℕ) : Type 0 where
-  pub long : length w ≡ length old
-  pub is : (k : ℕ) → k < i → slot w n (b + k) ≡ f k
+-- after i turns, slots b to b + i - 1 are f 0 to f (i - 1)
+abbrev pub Laid : (n b : ℕ) (f : ℕ → List Float) (w : List Float) (i : ℕ) → Type 0
+Laid n b f w i = (k : ℕ) → k < i → slot w n (b + k) ≡ f k
 
-pub laying_none : (old : List Float) (n b : ℕ) (f : ℕ → List Float) → Laying old n b f old 0
-laying_none old n b f = record { long = refl; is = λ k h. absurd (omega (arith, h)) }
+pub laid_more : (n b : ℕ) (f : ℕ → List Float) (w : List Float) (i : ℕ) → Laid n b f w i → (w' v : List Float) → Puts w n (b + i) v w' → v ≡ f i → Laid n b f w' (i + 1)
+laid_more n b f w i p w' v a e k h =
+    dite (dec_lt k i)
+    (λ low. a (b + k) ∙ rw (ne_eqb (b + k) (b + i) (λ z. omega (arith, low, z))) (p k low))
+    (λ high. let same : k ≡ i = omega (arith, h, high) in a (b + k) ∙ rw (eq-eqb (b + k) (b + i) (omega (arith, same)), same) e)
 
-pub laying_more : {old w : List Float} {n b : ℕ} {f : ℕ → List Float} {i : ℕ} → Laying old n b f w i → (w' v : List Float) → Puts w n (b + i) v w' → v ≡ f i → length w' ≡ length w
-    → Laying old n b f w' (i + 1)
-laying_more {old} {w} {n} {b} {f} {i} p w' v a e l = record {
-  long = l ∙ p.long;
-  is = λ k h.
-      dite (dec_lt k i)
-      (λ low. a (b + k) ∙ rw (ne_eqb (b + k) (b + i) (λ z. omega (arith, low, z))) (p.is k low))
-      (λ high. let same : k ≡ i = omega (arith, h, high) in a (b + k) ∙ rw (eq-eqb (b + k) (b + i) (omega (arith, same)), same) e);
-}
-
-pub laying_more₀ : {old w : List Float} {n : ℕ} {f : ℕ → List Float} {i : ℕ} → Laying old n 0 f w i → (w' v : List Float) → Puts w n i v w' → v ≡ f i → length w' ≡ length w
-    → Laying old n 0 f w' (i + 1)
-laying_more₀ {old} {w} {n} {f} {i} p w' v a e l = let z : 0 + i ≡ i = omega arith in laying_more p w' v (rw z a) e l
+pub laid_more₀ : (n : ℕ) (f : ℕ → List Float) (w : List Float) (i : ℕ) → Laid n 0 f w i → (w' v : List Float) → Puts w n i v w' → v ≡ f i → Laid n 0 f w' (i + 1)
+laid_more₀ n f w i p w' v a e = let z : 0 + i ≡ i = omega arith in laid_more n 0 f w i p w' v (rw z a) e
 
 -- the rows of [H | I], once all are laid
-pub laid_start : {old w : List Float} {n : ℕ} (h : List Float) → Laying old (n + n) 4 (λ i. tab (n + n) (start_entry n h i)) w n → Roomy n (length old) → rows_in w n ≡ start n h
+pub laid_start : (w : List Float) (n : ℕ) (h : List Float) → Laid (n + n) 4 (λ i. tab (n + n) (start_entry n h i)) w n → Roomy n (length w) → rows_in w n ≡ start n h
 unfolding start slot
-laid_start {old} {w} {n} h p r = fun_ext (λ k. pick k (ltb k n) refl) where
+laid_start w n h p r = fun_ext (λ k. pick k (ltb k n) refl) where
   pick : (k : ℕ) (b : Bool) → ltb k n ≡ b → rows_in w n k ≡ cond b (tab (n + n) (start_entry n h k)) []
-  pick k true e = p.is k (ltb-true k n e)
+  pick k true e = p k (ltb-true k n e)
   pick k false e =
       let over : 4 + n ≤ 4 + k = omega (arith, ltb-false k n e) in
-      let far : length w ≤ (4 + k) * (n + n) = omega (arith, mul-le-mul_right (n + n) over, r.long, room_is n, p.long) in
+      let far : length w ≤ (4 + k) * (n + n) = omega (arith, mul-le-mul_right (n + n) over, r.long, room_is n) in
       rw (drop_of_length-le w far) (take-nil (n + n))
 
 -- a vector of n * n numbers is its n slots, end to end
@@ -161,8 +152,8 @@ flat_slots v n f (suc k) a =
     let e : suc k * n ≡ k * n + n = omega (arith, suc-mul k n) in
     rw (e, take-add (k * n) n v) (ap (λ (l : List Float). l ++ take n (drop (k * n) v)) (flat_slots v n f k (λ i h. a i (omega (arith, h)))) ∙ ap (λ (l : List Float). flat k f ++ l) (a k (omega arith)))
 
-pub laid_flat : {old w : List Float} {n : ℕ} {f : ℕ → List Float} → Laying old n 0 f w n → length old ≡ n * n → w ≡ flat n f
-laid_flat {old} {w} {n} {f} p e = sym (take_all (n * n) w (omega (arith, p.long, e))) ∙ flat_slots w n f n (λ k h. let z : 0 + k ≡ k = omega arith in rw z at (p.is k h))
+pub laid_flat : (w : List Float) (n : ℕ) (f : ℕ → List Float) → Laid n 0 f w n → length w ≡ n * n → w ≡ flat n f
+laid_flat w n f p e = sym (take_all (n * n) w (omega (arith, e))) ∙ flat_slots w n f n (λ k h. let z : 0 + k ≡ k = omega arith in rw z at (p k h))
 
 -- ---- the pivot row
 

@@ -32,10 +32,8 @@ fn start_row(n: usize, w: &mut [f64], i: usize, h: &[f64])
 {
     let width = n + n;
     let from = (4 + i) * width;
-    let mut k = 0;
-    while k < width {
-        w[from + k] = start_entry(n, h, i, k);
-        k += 1;
+    for (k, x) in w[from..from + width].iter_mut().enumerate() {
+        *x = start_entry(n, h, i, k);
     }
 }
 
@@ -103,13 +101,27 @@ fn clear_rows(n: usize, w: &mut [f64], j: usize)
     requires { Roomy n (length w.old) × (j < n) × (slot w.old (n + n) 0 ≡ Inverse.rows_in w.old n j) }
     ensures { Inverse.rows_in w.new n ≡ Inverse.cleared n (Inverse.rows_in w.old n) j n }
 {
-    let mut i = 0;
-    while i < n {
+    for i in 0..n {
         if i != j {
             clear_row(n, w, j, i);
         }
-        i += 1;
     }
+}
+
+// The pivot row of column j starts at j and moves down.
+fn pivot_row(n: usize, w: &[f64], j: usize) -> usize
+    requires { Roomy n (length w.now) × (j < n) }
+    ensures { (result < n) × (result ≡ Inverse.pivot_row n (Inverse.rows_in w.now n) j) }
+{
+    let mut p = j;
+    for i in j + 1..n {
+        let held = float::magnitude(entry(n, w, p, j));
+        let seen = float::magnitude(entry(n, w, i, j));
+        if seen > held {
+            p = i;
+        }
+    }
+    p
 }
 
 // Column after column; false where one has no pivot.
@@ -117,25 +129,13 @@ fn columns(n: usize, w: &mut [f64], bound: f64) -> bool
     requires { Roomy n (length w.old) }
     ensures { Inverse.found result (Inverse.rows_in w.new n) ≡ Inverse.columns bound n n 0 (Inverse.rows_in w.old n) }
 {
-    let mut j = 0;
-    while j < n {
-        // the pivot row starts at j and moves down
-        let mut p = j;
-        let mut i = j + 1;
-        while i < n {
-            let held = float::magnitude(entry(n, w, p, j));
-            let seen = float::magnitude(entry(n, w, i, j));
-            if seen > held {
-                p = i;
-            }
-            i += 1;
-        }
+    for j in 0..n {
+        let p = pivot_row(n, w, j);
         if no_pivot(bound, entry(n, w, p, j)) {
             return false;
         }
         take_pivot(n, w, j, p);
         clear_rows(n, w, j);
-        j += 1;
     }
     true
 }
@@ -145,10 +145,8 @@ pub(crate) fn eliminate(n: usize, w: &mut [f64], h: &[f64]) -> bool
     requires { Roomy n (length w.old) × (length h.now ≡ n * n) }
     ensures { Inverse.found result (Inverse.rows_in w.new n) ≡ Inverse.eliminated n h.now }
 {
-    let mut i = 0;
-    while i < n {
+    for i in 0..n {
         start_row(n, w, i, h);
-        i += 1;
     }
     columns(n, w, pivot_bound(h))
 }
@@ -169,11 +167,8 @@ pub(crate) fn inverse_times(n: usize, w: &mut [f64], to: usize, g: &[f64])
     ensures { Puts w.old n to (Inverse.inverse_times n (Inverse.rows_in w.old n) g.now) w.new }
 {
     let first = to * n;
-    let mut i = 0;
-    while i < n {
-        let x = vector::dot_any(right_row(n, w, i), g);
-        w[first + i] = x;
-        i += 1;
+    for i in 0..n {
+        w[first + i] = vector::dot_any(right_row(n, w, i), g);
     }
 }
 
@@ -181,10 +176,8 @@ fn hand_out(n: usize, w: &[f64], out: &mut [f64])
     requires { Roomy n (length w.now) × (length out.old ≡ n * n) }
     ensures { out.new ≡ flat n (Inverse.right_row n (Inverse.rows_in w.now n)) }
 {
-    let mut i = 0;
-    while i < n {
+    for i in 0..n {
         workspace::put(n, out, i, right_row(n, w, i));
-        i += 1;
     }
 }
 

@@ -41,10 +41,8 @@ pub(crate) fn each(n: usize, w: &mut [f64], to: usize, op: Op, x: usize, y: usiz
     let start = to * n;
     let from = x * n;
     let by = y * n;
-    let mut i = 0;
-    while i < n {
+    for i in 0..n {
         w[start + i] = apply(op, w[from + i], w[by + i]);
-        i += 1;
     }
 }
 
@@ -56,11 +54,9 @@ pub(crate) fn update(n: usize, w: &mut [f64], to: usize, op: Op, y: usize)
 {
     let start = to * n;
     let by = y * n;
-    let mut i = 0;
-    while i < n {
+    for i in 0..n {
         let at = start + i;
         w[at] = apply(op, w[at], w[by + i]);
-        i += 1;
     }
 }
 
@@ -79,10 +75,8 @@ pub(crate) fn put(n: usize, w: &mut [f64], to: usize, v: &[f64])
     ensures { Puts w.old n to v.now w.new }
 {
     let start = to * n;
-    let mut i = 0;
-    while i < n {
-        w[start + i] = float::one_nan(v[i]);
-        i += 1;
+    for (i, x) in w[start..start + n].iter_mut().enumerate() {
+        *x = float::one_nan(v[i]);
     }
 }
 
@@ -92,10 +86,8 @@ pub(crate) fn put_times(n: usize, w: &mut [f64], to: usize, v: &[f64], a: f64)
     ensures { Puts w.old n to (Vector.scale n v.now a) w.new }
 {
     let start = to * n;
-    let mut i = 0;
-    while i < n {
-        w[start + i] = v[i] * a;
-        i += 1;
+    for (i, x) in w[start..start + n].iter_mut().enumerate() {
+        *x = v[i] * a;
     }
 }
 
@@ -105,11 +97,8 @@ pub(crate) fn times(n: usize, w: &mut [f64], to: usize, h: &[f64], x: usize)
     ensures { Puts w.old n to (Vector.times n h.now (slot w.old n x)) w.new }
 {
     let start = to * n;
-    let mut i = 0;
-    while i < n {
-        let y = vector::dot_any(vector::row(n, h, i), part(n, w, x));
-        w[start + i] = y;
-        i += 1;
+    for i in 0..n {
+        w[start + i] = vector::dot_any(vector::row(n, h, i), part(n, w, x));
     }
 }
 

@@ -1,11 +1,8 @@
-use Prim.Native.Nat.{◌+◌, ◌-◌, ◌≤◌}
+use Prim.Native.Nat.{◌+◌}
 use Rattle.vectors.specs.Vector.{tab}
 use Rattle.kernels.specs.Inverse.{start_entry}
-use Rattle.kernels.proofs.Rows.{Laying}
+use Rattle.kernels.proofs.Rows.{Laid}
 use Rattle.kernels.proofs.inverse.eliminate.Given as goal
 
 abbrev pub invariant-loop-i : goal.invariant-loop-i
-invariant-loop-i l = (l.i ≤ l.n) × Laying l.initial.w (l.n + l.n) 4 (λ k. tab (l.n + l.n) (start_entry l.n l.h k)) l.w l.i
-
-abbrev pub decreases-loop-i : goal.decreases-loop-i
-decreases-loop-i l = l.n - l.i
+invariant-loop-i l = Laid (l.n + l.n) 4 (λ k. tab (l.n + l.n) (start_entry l.n l.h k)) l.w l.i

@@ -1,10 +1,7 @@
-use Prim.Native.Nat.{◌-◌}
+use mathlib.Core.Path.{◌≡◌}
+use Prim.Native.Nat.{ℕ, ◌<◌}
 use Rattle.vectors.specs.Vector.{at}
-use Rattle.vectors.proofs.Slots.{Writing}
 use Rattle.kernels.proofs.workspace.put.Given as goal
 
 abbrev pub invariant-loop-i : goal.invariant-loop-i
-invariant-loop-i l = Writing l.initial.w l.n l.to (at l.v) l.w l.i
-
-abbrev pub decreases-loop-i : goal.decreases-loop-i
-decreases-loop-i l = l.n - l.i
+invariant-loop-i l = (k : ℕ) → k < l.i → at l.x-items k ≡ at l.v k

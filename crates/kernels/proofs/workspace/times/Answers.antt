@@ -3,18 +3,14 @@ use mathlib.Core.Path.{◌∙◌}
 use borrow.Author.Rules.{rules}
 use Rattle.vectors.specs.Vector.{times}
 use Rattle.vectors.proofs.Sizes.{row_good}
-use Rattle.vectors.proofs.Slots.{writing_none, writing_more, writing_other, writing_done}
+use Rattle.vectors.proofs.Slots.{writing_more, writing_other, writing_done}
 use Rattle.kernels.proofs.workspace.times.Goals as goal
-
-pub loop-i-init : goal.loop-i-init
-unfolding times
-loop-i-init c = writing_none (search rules)
 
 pub loop-i-preserved : goal.loop-i-preserved
 loop-i-preserved c =
     let inv = c.loop-i.invariant in
     let the_row = c.row.ensures ∙ row_good c.args.n c.args.h.now c.loop-i.i c.requires.2 c.loop-i-test.true in
-    writing_more inv (search rules) (c.dot_any-y.ensures ∙ rw (the_row, c.part.ensures.0, writing_other inv c.args.x c.requires.3))
+    writing_more inv (search rules) (c.dot_any.ensures ∙ rw (the_row, c.part.ensures.0, writing_other inv c.args.x c.requires.3))
 
 pub returns : goal.returns
 unfolding times

@@ -2,12 +2,8 @@
 use mathlib.Core.Path.{◌∙◌}
 use borrow.Author.Rules.{rules}
 use Rattle.kernels.specs.Workspace.{each}
-use Rattle.vectors.proofs.Slots.{writing_none, writing_read, writing_more, writing_done}
+use Rattle.vectors.proofs.Slots.{writing_read, writing_more, writing_done}
 use Rattle.kernels.proofs.workspace.update.Goals as goal
-
-pub loop-i-init : goal.loop-i-init
-unfolding each
-loop-i-init c = writing_none (search rules)
 
 pub loop-i-preserved : goal.loop-i-preserved
 unfolding each
