@@ -6,42 +6,24 @@ use Prim.Native.Nat.{ℕ, zero, suc}
 use lib.ListN.{length}
 use lib.Ieee.{Float, lt, le, neg}
 use Rattle.std.specs.Prelude.{Result, Err}
-use Rattle.float.specs.Numbers.{◌⊖◌, square}
+use Rattle.float.specs.Numbers.{◌⊕◌, ◌⊖◌, ◌⊗◌, square}
 use Rattle.float.specs.Constants.{one}
 use Rattle.vectors.specs.Vector.{dot, norm, weighted, plus, minus, scale}
 use Rattle.vectors.specs.Slots.{slot, Puts}
-use Rattle.kernels.specs.Workspace.{each}
+use Rattle.kernels.specs.Workspace.{map, zip}
 use Rattle.vectors.specs.Refusal.{Answer, refused, given, then}
 use Rattle.kernels.specs.Kernel.{Made, made, handed_out, Proper, Reached}
-use Rattle.kernels.specs.Inverse.{Rows, found, column_by, column, columns, eliminated, inverse_times, entry, pivot_bound, no_pivot, pivot_row, swapped, divided, cleared, start}
+use Rattle.kernels.specs.Inverse.{Rows, eliminated, inverse_times}
 use Rattle.kernels.specs.Dogleg.{tau, bent, measured, outside, towards, unconstrained, dogleg_step, newton, between, dogleg, Measures_in}
-use Rattle.vectors.specs.declared.refusal.Refusal.TheVariants.{Pivot}
 use Rattle.kernels.specs.declared.dogleg.Measures.{Measures}
 use Rattle.kernels.specs.declared.kernel.Stepped.{Stepped}
 use Rattle.vectors.specs.declared.refusal.Refusal.{Refusal}
-use Rattle.kernels.specs.declared.workspace.Op.TheVariants.{Times, PlusTimes, Minus}
 use Rattle.vectors.proofs.Vectors.{length_plus, length_scale}
-use Rattle.kernels.proofs.Ops.{each_minus, each_times, each_plus_times}
-use Rattle.kernels.proofs.Rows.{found_none, found_rows}
-use Rattle.kernels.proofs.Kernels.{Late, then_late, then_proper, handed_proper, reached_same, reached_none}
+use Rattle.kernels.proofs.Ops.{map_times, zip_minus, zip_plus_times}
+use Rattle.kernels.proofs.Ends.{eliminated_late}
+use Rattle.kernels.proofs.Kernels.{then_proper, handed_proper, reached_same, reached_none}
 
 -- ---- the answers that it may give
-
-column_late : (bound : Float) (n : ℕ) (R : Rows) (j : ℕ) → Late (column bound n R j)
-unfolding column column_by
-column_late bound n R j = pick (no_pivot bound (entry R (pivot_row n R j) j)) (cleared n (divided n (swapped R j (pivot_row n R j)) j) j n) where
-  pick : (b : Bool) (S : Rows) → Late (cond b (refused Pivot) (given S))
-  pick true S = refl
-  pick false S = tt
-
-columns_late : (bound : Float) (n k j : ℕ) (R : Rows) → Late (columns bound n k j R)
-unfolding columns
-columns_late bound n zero j R = tt
-columns_late bound n (suc k) j R = then_late (columns bound n k (suc j)) (column bound n R j) (column_late bound n R j) (columns_late bound n k (suc j))
-
-pub eliminated_late : (n : ℕ) (H : List Float) → Late (eliminated n H)
-unfolding eliminated
-eliminated_late n H = columns_late (pivot_bound H) n n 0 (start n H)
 
 pub chosen_long : (n : ℕ) (b : Bool) (x y : List Float) → length x ≡ n → length y ≡ n → length (cond b x y) ≡ n
 chosen_long n true x y e f = e
@@ -94,32 +76,32 @@ dogleg_proper n radius g H = between_proper dogleg_step n radius g H (step_long 
 -- ---- each function, from what it read and wrote
 
 module _ (n : ℕ) (tau : Float) (w w' : List Float) where
-  pub bent_first : lt tau one ≡ true → Puts w n 0 (each n (Times tau) (slot w n 1) (slot w n 1)) w' → slot w' n 0 ≡ bent n tau (slot w n 1) (slot w n 2)
+  pub bent_first : lt tau one ≡ true → Puts w n 0 (map n (λ x. x ⊗ tau) (slot w n 1)) w' → slot w' n 0 ≡ bent n tau (slot w n 1) (slot w n 2)
   unfolding bent
-  bent_first t p = rw t (p 0 ∙ each_times n (slot w n 1) (slot w n 1) tau)
+  bent_first t p = rw t (p 0 ∙ map_times n (slot w n 1) tau)
 
-  pub bent_second : lt tau one ≡ false → Puts w n 0 (each n (PlusTimes (tau ⊖ one)) (slot w n 1) (slot w n 2)) w' → slot w' n 0 ≡ bent n tau (slot w n 1) (slot w n 2)
+  pub bent_second : lt tau one ≡ false → Puts w n 0 (zip n (λ x y. x ⊕ y ⊗ (tau ⊖ one)) (slot w n 1) (slot w n 2)) w' → slot w' n 0 ≡ bent n tau (slot w n 1) (slot w n 2)
   unfolding bent
-  bent_second t p = rw t (p 0 ∙ each_plus_times n (slot w n 1) (slot w n 2) (tau ⊖ one))
+  bent_second t p = rw t (p 0 ∙ zip_plus_times n (slot w n 1) (slot w n 2) (tau ⊖ one))
 
--- Newton's point, where the elimination left R and said f
-module _ (n : ℕ) (g H : List Float) (f : Bool) (R : Rows) (e : found f R ≡ eliminated n H) where
-  pub no_newton : f ≡ false → refused Pivot ≡ newton n g H
+-- Newton's point, by the elimination
+module _ (n : ℕ) (g H : List Float) where
+  pub no_newton : (r : Refusal) → refused r ≡ eliminated n H → refused r ≡ newton n g H
   unfolding newton
-  no_newton h = rw (← found_none f R (eliminated n H) e h)
+  no_newton r e = rw (← e)
 
-  pub newtons : (w w₁ w₂ : List Float) → f ≡ true → Puts w n 0 (inverse_times n R g) w₁ → Puts w₁ n 0 (each n (Times (neg one)) (slot w₁ n 0) (slot w₁ n 0)) w₂
+  pub newtons : (R : Rows) (w w₁ w₂ : List Float) → given R ≡ eliminated n H → Puts w n 0 (inverse_times n R g) w₁ → Puts w₁ n 0 (map n (λ x. x ⊗ neg one) (slot w₁ n 0)) w₂
       → given (slot w₂ n 0) ≡ newton n g H
   unfolding newton
-  newtons w w₁ w₂ h p q =
-      let turned : slot w₂ n 0 ≡ scale n (inverse_times n R g) (neg one) = q 0 ∙ each_times n (slot w₁ n 0) (slot w₁ n 0) (neg one) ∙ rw (p 0) in
-      rw (← found_rows f R (eliminated n H) e h, turned)
+  newtons R w w₁ w₂ e p q =
+      let turned : slot w₂ n 0 ≡ scale n (inverse_times n R g) (neg one) = q 0 ∙ map_times n (slot w₁ n 0) (neg one) ∙ rw (p 0) in
+      rw (← e, turned)
 
-pub measured_here : (n : ℕ) (w w' : List Float) (m : Measures) → Puts w n 2 (each n Minus (slot w n 0) (slot w n 1)) w'
+pub measured_here : (n : ℕ) (w w' : List Float) (m : Measures) → Puts w n 2 (zip n (λ x y. x ⊖ y) (slot w n 0) (slot w n 1)) w'
     → m.c ≡ dot (slot w' n 1) (slot w' n 2) → m.k ≡ dot (slot w' n 2) (slot w' n 2) → m.u ≡ dot (slot w' n 1) (slot w' n 1) → Measures_in n w m w'
 unfolding measured
 measured_here n w w' m p c k u =
-    let v : slot w' n 2 ≡ minus n (slot w n 0) (slot w n 1) = p 2 ∙ each_minus n (slot w n 0) (slot w n 1) in
+    let v : slot w' n 2 ≡ minus n (slot w n 0) (slot w n 1) = p 2 ∙ zip_minus n (slot w n 0) (slot w n 1) in
     record { pu_stays = p 1; across = v; measure = λ radius f. rw (c, k, u, p 1, v) }
 
 -- the step, where ‖pb‖ is x

@@ -9,32 +9,31 @@ use lib.ListN.{length, take}
 use lib.Seq.{take_at, length-take-le}
 use lib.Ieee.{Float, lt, le, neg, is_nan}
 use Rattle.std.specs.Prelude.{None, Some, Result}
-use Rattle.float.specs.Numbers.{◌⊗◌, ◌⊘◌}
+use Rattle.float.specs.Numbers.{◌⊕◌, ◌⊗◌, ◌⊘◌}
 use Rattle.float.specs.Constants.{nought, one}
 use Rattle.float.proofs.Order.{lt_self}
 use Rattle.vectors.specs.Slots.{slot, Puts}
 use Rattle.vectors.specs.Vector.{dot, norm, times, scale, zeros}
-use Rattle.kernels.specs.Workspace.{each}
+use Rattle.kernels.specs.Workspace.{zip}
 use Rattle.vectors.specs.Refusal.{Answer, refused, given, then, untouched_by}
 use Rattle.kernels.specs.Kernel.{Made, made, handed_out, Proper, Reached}
 use Rattle.kernels.specs.Steihaug.{roots_at, listed, ahead, model, valued, lesser, any_nan, by_model, larger, largest_from, forward, State, Pass, stops, goes_on, after, stops_at, curved, crossing, onward, straight, pass, run, steihaug, start, state_in, Keeps}
 use Rattle.kernels.specs.declared.kernel.Stepped.{Stepped}
 use Rattle.vectors.specs.declared.refusal.Refusal.{Refusal}
 use Rattle.vectors.specs.declared.refusal.Refusal.TheVariants.{Root}
-use Rattle.kernels.specs.declared.workspace.Op.TheVariants.{Same, PlusTimes, TurnedPlusTimes}
 use Rattle.kernels.specs.declared.steihaug.Roots.{Roots}
 use Rattle.kernels.specs.declared.steihaug.Valued.{Valued}
 use Rattle.vectors.proofs.Vectors.{length_tab, length_plus}
-use Rattle.kernels.proofs.Ops.{each_same, each_plus_times, each_turned_plus_times}
+use Rattle.kernels.proofs.Ops.{zip_plus_times, zip_turned_plus_times}
 use Rattle.vectors.proofs.Slots.{length_slot}
 use Rattle.kernels.proofs.Kernels.{Late, then_handed, reached_same}
 
 -- ---- by model
 
-pub valued_here : (w w' g H : List Float) (n : ℕ) (tau m : Float) → Puts w n 6 (each n (PlusTimes tau) (slot w n 0) (slot w n 2)) w'
+pub valued_here : (w w' g H : List Float) (n : ℕ) (tau m : Float) → Puts w n 6 (zip n (λ x y. x ⊕ y ⊗ tau) (slot w n 0) (slot w n 2)) w'
     → m ≡ model n g H (slot w' n 6) → ◌≡◌ {A = Valued} (record { tau = tau; model = m }) (valued n g H (slot w n 0) (slot w n 2) tau)
 unfolding valued
-valued_here w w' g H n tau m put e = rw (e, put 6, each_plus_times n (slot w n 0) (slot w n 2) tau)
+valued_here w w' g H n tau m put e = rw (e, put 6, zip_plus_times n (slot w n 0) (slot w n 2) tau)
 
 -- the second again in the third's place changes nothing
 module _ (a b : Valued) where
@@ -79,14 +78,11 @@ module _ (n : ℕ) (g H w w₁ w₂ : List Float) (ts : Roots) (a b : Valued) (o
 -- ---- what a write leaves in its slot
 
 module _ (w w' : List Float) (n k x y : ℕ) where
-  pub put_same : x * n + n ≤ length w → Puts w n k (each n Same (slot w n x) (slot w n y)) w' → Puts w n k (slot w n x) w'
-  put_same l p = subst (λ (v : List Float). Puts w n k v w') (each_same n (slot w n x) (slot w n y) (length_slot w n x l)) p
+  pub put_ahead : (t : Float) → Puts w n k (zip n (λ u v. u ⊕ v ⊗ t) (slot w n x) (slot w n y)) w' → Puts w n k (ahead n (slot w n x) (slot w n y) t) w'
+  put_ahead t p = subst (λ (v : List Float). Puts w n k v w') (zip_plus_times n (slot w n x) (slot w n y) t) p
 
-  pub put_ahead : (t : Float) → Puts w n k (each n (PlusTimes t) (slot w n x) (slot w n y)) w' → Puts w n k (ahead n (slot w n x) (slot w n y) t) w'
-  put_ahead t p = subst (λ (v : List Float). Puts w n k v w') (each_plus_times n (slot w n x) (slot w n y) t) p
-
-  pub put_turned : (t : Float) → Puts w n k (each n (TurnedPlusTimes t) (slot w n x) (slot w n y)) w' → Puts w n k (ahead n (scale n (slot w n x) (neg one)) (slot w n y) t) w'
-  put_turned t p = subst (λ (v : List Float). Puts w n k v w') (each_turned_plus_times n (slot w n x) (slot w n y) t) p
+  pub put_turned : (t : Float) → Puts w n k (zip n (λ u v. u ⊗ neg one ⊕ v ⊗ t) (slot w n x) (slot w n y)) w' → Puts w n k (ahead n (scale n (slot w n x) (neg one)) (slot w n y) t) w'
+  put_turned t p = subst (λ (v : List Float). Puts w n k v w') (zip_turned_plus_times n (slot w n x) (slot w n y) t) p
 
 -- ---- the ends of a pass
 

@@ -13,17 +13,16 @@ use lib.ListN.{length, take, drop, drop_of_length-le, length-drop}
 use lib.Seq.{take-nil, take-add, take_all, drop-drop, length-take-le, get_or-take, get_or-drop}
 use lib.Ieee.{Float, nan, lt}
 use borrow.Author.Tests.{eqb-true, eqb-false, eq-eqb, ne_eqb, ltb-true, ltb-false}
-use Rattle.float.specs.Numbers.{magnitude}
+use Rattle.float.specs.Numbers.{◌⊖◌, ◌⊗◌, ◌⊘◌, magnitude}
 use Rattle.vectors.specs.Vector.{at, tab, over, flat}
 use Rattle.vectors.specs.Slots.{slot, Puts}
 use Rattle.vectors.specs.Refusal.{Answer, refused, given, then, room, Roomy}
-use Rattle.kernels.specs.Workspace.{each}
+use Rattle.kernels.specs.Workspace.{map, zip}
 use Rattle.vectors.specs.declared.refusal.Refusal.TheVariants.{Pivot}
-use Rattle.kernels.specs.declared.workspace.Op.TheVariants.{Same, Over, LessTimes}
-use Rattle.kernels.specs.Inverse.{Rows, with_row, rows_in, found, entry, start, start_entry, pivot_among, pivot_row, no_pivot, swapped, divided, cleared_row, cleared, column_by, column, columns, right_row}
+use Rattle.kernels.specs.Inverse.{Rows, with_row, rows_in, entry, start, start_entry, pivot_among, pivot_row, no_pivot, swapped, divided, cleared_row, cleared, column_by, column, columns, right_row}
 use Rattle.vectors.proofs.Vectors.{tab_at, tab_same}
-use Rattle.kernels.proofs.Ops.{each_same, each_over, each_less_times}
-use Rattle.vectors.proofs.Slots.{before, at_slot, length_slot, Writing, writing_other}
+use Rattle.kernels.proofs.Ops.{map_over, zip_less_times}
+use Rattle.vectors.proofs.Slots.{before, at_slot, Writing, writing_other}
 
 -- ---- room
 
@@ -65,12 +64,9 @@ rows_spare : (w w' : List Float) (n : ℕ) (v : List Float) → Puts w (n + n) 0
 rows_spare w w' n v a = fun_ext (λ i. a (4 + i) ∙ rw (row_not_spare i))
 
 -- row p takes the numbers of row j
-pub moves_row : (w w₁ : List Float) (n j p : ℕ) → Roomy n (length w) → j < n → Puts w (n + n) (4 + p) (each (n + n) Same (slot w (n + n) (4 + j)) (slot w (n + n) (4 + j))) w₁
+pub moves_row : (w w₁ : List Float) (n j p : ℕ) → Puts w (n + n) (4 + p) (slot w (n + n) (4 + j)) w₁
     → (rows_in w₁ n ≡ with_row (rows_in w n) p (rows_in w n j)) × (slot w₁ (n + n) 0 ≡ slot w (n + n) 0)
-moves_row w w₁ n j p r h a =
-    let m = n + n in
-    let same : each m Same (slot w m (4 + j)) (slot w m (4 + j)) ≡ slot w m (4 + j) = each_same m (slot w m (4 + j)) (slot w m (4 + j)) (length_slot w m (4 + j) (row_room r j h)) in
-    (rows_put w w₁ n p _ a ∙ rw same, a 0 ∙ rw (spare_not_row p))
+moves_row w w₁ n j p a = (rows_put w w₁ n p _ a, a 0 ∙ rw (spare_not_row p))
 
 -- which it has already
 pub moves_none : (R : Rows) (j p : ℕ) → j ≡ p → R ≡ with_row R p (R j)
@@ -94,29 +90,28 @@ swapped_with R j p v = fun_ext (λ i. pick i (eqb i j)) where
   pick i true = refl
   pick i false = refl
 
-pub takes_pivot : (w w₁ w₂ w₃ : List Float) (n j p : ℕ) (x : Float) → Roomy n (length w₂) → x ≡ entry (rows_in w n) p j
-    → Puts w (n + n) 0 (each (n + n) (Over x) (slot w (n + n) (4 + p)) (slot w (n + n) (4 + p))) w₁
+pub takes_pivot : (w w₁ w₂ w₃ : List Float) (n j p : ℕ) (x : Float) → x ≡ entry (rows_in w n) p j
+    → Puts w (n + n) 0 (map (n + n) (λ u. u ⊘ x) (slot w (n + n) (4 + p))) w₁
     → (rows_in w₂ n ≡ with_row (rows_in w₁ n) p (rows_in w₁ n j)) × (slot w₂ (n + n) 0 ≡ slot w₁ (n + n) 0)
-    → Puts w₂ (n + n) (4 + j) (each (n + n) Same (slot w₂ (n + n) 0) (slot w₂ (n + n) 0)) w₃
+    → Puts w₂ (n + n) (4 + j) (slot w₂ (n + n) 0) w₃
     → (rows_in w₃ n ≡ divided n (swapped (rows_in w n) j p) j) × (slot w₃ (n + n) 0 ≡ rows_in w₃ n j)
 unfolding divided over
-takes_pivot w w₁ w₂ w₃ n j p x r e a b c =
+takes_pivot w w₁ w₂ w₃ n j p x e a b c =
     let m = n + n in
     let R = rows_in w n in
     let old : rows_in w₁ n ≡ R = rows_spare w w₁ n _ a in
     let moved : rows_in w₂ n ≡ with_row R p (R j) = b.0 ∙ ap (λ (S : Rows). with_row S p (S j)) old in
-    let same : each m Same (slot w₂ m 0) (slot w₂ m 0) ≡ slot w₂ m 0 = each_same m (slot w₂ m 0) (slot w₂ m 0) (length_slot w₂ m 0 (spare_room r)) in
-    let there : slot w₃ m (4 + j) ≡ slot w₂ m 0 = c (4 + j) ∙ rw (eq-eqb (4 + j) (4 + j) refl) same in
+    let there : slot w₃ m (4 + j) ≡ slot w₂ m 0 = c (4 + j) ∙ rw (eq-eqb (4 + j) (4 + j) refl) in
     let spare : slot w₃ m 0 ≡ slot w₂ m 0 = c 0 ∙ rw (spare_not_row j) in
     let put : rows_in w₃ n ≡ with_row (with_row R p (R j)) j (over m (R p) (entry R p j)) =
-    rows_put w₂ w₃ n j _ c ∙ rw (same, b.1, a 0, moved, each_over, e) in
+    rows_put w₂ w₃ n j _ c ∙ rw (b.1, a 0, moved, map_over m (slot w m (4 + p)) x, e) in
     (put ∙ swapped_with R j p _ ∙ rw (swapped_at R j p), spare ∙ sym there)
 
 pub clears : (w w₁ : List Float) (n j i : ℕ) (x : Float) → x ≡ entry (rows_in w n) i j → slot w (n + n) 0 ≡ rows_in w n j
-    → Puts w (n + n) (4 + i) (each (n + n) (LessTimes x) (slot w (n + n) (4 + i)) (slot w (n + n) 0)) w₁
+    → Puts w (n + n) (4 + i) (zip (n + n) (λ u v. u ⊖ x ⊗ v) (slot w (n + n) (4 + i)) (slot w (n + n) 0)) w₁
     → (rows_in w₁ n ≡ cleared_row n (rows_in w n) j i) × (slot w₁ (n + n) 0 ≡ slot w (n + n) 0)
 unfolding cleared_row
-clears w w₁ n j i x e s a = (rows_put w w₁ n i _ a ∙ rw (s, each_less_times, e), a 0 ∙ rw (spare_not_row i))
+clears w w₁ n j i x e s a = (rows_put w w₁ n i _ a ∙ rw (s, zip_less_times (n + n) (slot w (n + n) (4 + i)) (rows_in w n j) x, e), a 0 ∙ rw (spare_not_row i))
 
 -- ---- a loop that writes slots b, b + 1 ..
 
@@ -203,46 +198,27 @@ pub still_apart : (w w₀ : List Float) (n j i : ℕ) → slot w₀ (n + n) 0 �
     → slot w (n + n) 0 ≡ slot w₀ (n + n) 0 → slot w (n + n) 0 ≡ rows_in w n j
 still_apart w w₀ n j i e inv s = s ∙ e ∙ sym (ap (λ (S : Rows). S j) inv ∙ cleared_keeps n j i (rows_in w₀ n))
 
--- ---- what a flag that the code tests says of the rows that were left
-
-pub found_none : (r : Bool) (R : Rows) (o : Answer Rows) → found r R ≡ o → r ≡ false → refused Pivot ≡ o
-unfolding found
-found_none true R o e h = cc
-found_none false R o e h = e
-
-pub found_rows : (r : Bool) (R : Rows) (o : Answer Rows) → found r R ≡ o → r ≡ true → given R ≡ o
-unfolding found
-found_rows true R o e h = e
-found_rows false R o e h = cc
-
 -- ---- a column, and all of them
 
 module _ (bound : Float) (n j p : ℕ) (R : Rows) (x : Float) (e : p ≡ pivot_row n R j) (f : x ≡ entry R p j) where
-  pub column_ends : (S : Rows) → no_pivot bound x ≡ true → found false S ≡ column bound n R j
-  unfolding column column_by found
-  column_ends S t = rw (← e, ← f, t)
+  pub column_ends : no_pivot bound x ≡ true → refused Pivot ≡ column bound n R j
+  unfolding column column_by
+  column_ends t = rw (← e, ← f, t)
 
-  pub column_done : (R₁ R₂ : Rows) → no_pivot bound x ≡ false → R₁ ≡ divided n (swapped R j p) j → R₂ ≡ cleared n R₁ j n → found true R₂ ≡ column bound n R j
-  unfolding column column_by found
+  pub column_done : (R₁ R₂ : Rows) → no_pivot bound x ≡ false → R₁ ≡ divided n (swapped R j p) j → R₂ ≡ cleared n R₁ j n → given R₂ ≡ column bound n R j
+  unfolding column column_by
   column_done R₁ R₂ t a b = rw (← e, ← f, t, b, a)
 
 -- a column takes one from those that are left
-module _ (bound : Float) (n j : ℕ) (R : Rows) (all : Answer Rows) (l : j < n) (inv : columns bound n (n - j) j R ≡ all) where
-  turn : (o : Answer Rows) → o ≡ column bound n R j → then (columns bound n (n - (j + 1)) (j + 1)) o ≡ all
-  unfolding columns
-  turn o e =
-      let more : n - j ≡ suc (n - (j + 1)) = omega arith in
-      rw e (rw (add-one j) (rw (more, add-one j) at inv))
+pub columns_more : (bound : Float) (n j : ℕ) (R : Rows) (all o : Answer Rows) → j < n → columns bound n (n - j) j R ≡ all → o ≡ column bound n R j
+    → then (columns bound n (n - (j + 1)) (j + 1)) o ≡ all
+unfolding columns
+columns_more bound n j R all o l inv e =
+    let more : n - j ≡ suc (n - (j + 1)) = omega arith in
+    rw e (rw (add-one j) (rw (more, add-one j) at inv))
 
-  pub columns_stop : (S : Rows) (r : Bool) → found r S ≡ column bound n R j → r ≡ false → found false S ≡ all
-  unfolding found
-  columns_stop S r e h = turn (refused Pivot) (found_none r S (column bound n R j) e h)
-
-  pub columns_go : (S : Rows) (r : Bool) → found r S ≡ column bound n R j → r ≡ true → columns bound n (n - (j + 1)) (j + 1) S ≡ all
-  columns_go S r e h = turn (given S) (found_rows r S (column bound n R j) e h)
-
-pub columns_end : (bound : Float) (n j : ℕ) (R : Rows) (all : Answer Rows) → n ≤ j → columns bound n (n - j) j R ≡ all → found true R ≡ all
-unfolding columns found
+pub columns_end : (bound : Float) (n j : ℕ) (R : Rows) (all : Answer Rows) → n ≤ j → columns bound n (n - j) j R ≡ all → given R ≡ all
+unfolding columns
 columns_end bound n j R all l inv = let none_left : n - j ≡ 0 = omega arith in rw none_left at inv
 
 -- ---- the right half of a row, where it stands

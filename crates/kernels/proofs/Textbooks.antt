@@ -10,7 +10,7 @@ use Rattle.float.specs.Numbers.{◌⊘◌, square}
 use Rattle.float.specs.Constants.{nought}
 use Rattle.vectors.specs.Vector.{norm, weighted, minus, scale}
 use Rattle.vectors.specs.Slots.{slot, Puts}
-use Rattle.kernels.specs.Workspace.{each}
+use Rattle.kernels.specs.Workspace.{map, zip}
 use Rattle.kernels.specs.Kernel.{Proper, Reached}
 use Rattle.kernels.specs.CauchyPoint.{cauchy_point}
 use Rattle.kernels.specs.Dogleg.{measured, towards, unconstrained, between, Measures_in}
@@ -18,9 +18,8 @@ use Rattle.kernels.specs.Textbook.{first_leg, along, second_leg, legs, textbook_
 use Rattle.kernels.specs.declared.dogleg.Measures.{Measures}
 use Rattle.kernels.specs.declared.kernel.Stepped.{Stepped}
 use Rattle.vectors.specs.declared.refusal.Refusal.{Refusal}
-use Rattle.kernels.specs.declared.workspace.Op.TheVariants.{Times, PlusTimes}
 use Rattle.vectors.proofs.Vectors.{length_plus, length_scale}
-use Rattle.kernels.proofs.Ops.{each_times, each_plus_times}
+use Rattle.kernels.proofs.Ops.{map_times, zip_plus_times}
 use Rattle.kernels.proofs.CauchyPoints.{cauchy_proper}
 use Rattle.kernels.proofs.Doglegs.{chosen_long, between_proper}
 
@@ -54,14 +53,14 @@ module _ (n : ℕ) (radius y curvature : Float) (g w w₁ w₂ : List Float) (p 
   is_y : y ≡ norm (towards n g curvature)
   is_y = f ∙ rw (p 1)
 
-  pub on_first : le radius y ≡ true → Puts w₁ n 0 (each n (Times (radius ⊘ y)) (slot w₁ n 1) (slot w₁ n 1)) w₂ → slot w₂ n 0 ≡ all
+  pub on_first : le radius y ≡ true → Puts w₁ n 0 (map n (λ x. x ⊗ (radius ⊘ y)) (slot w₁ n 1)) w₂ → slot w₂ n 0 ≡ all
   unfolding legs first_leg
-  on_first h q = rw (← is_y, h) (q 0 ∙ each_times n (slot w₁ n 1) (slot w₁ n 1) (radius ⊘ y) ∙ rw (p 1))
+  on_first h q = rw (← is_y, h) (q 0 ∙ map_times n (slot w₁ n 1) (radius ⊘ y) ∙ rw (p 1))
 
   pub on_second : (w₃ : List Float) (m : Measures) (a : Float) → le radius y ≡ false → Measures_in n w₁ m w₂ → a ≡ along m.c m.k m.u (square radius)
-      → Puts w₂ n 0 (each n (PlusTimes a) (slot w₂ n 1) (slot w₂ n 2)) w₃ → slot w₃ n 0 ≡ all
+      → Puts w₂ n 0 (zip n (λ x y. x ⊕ y ⊗ a) (slot w₂ n 1) (slot w₂ n 2)) w₃ → slot w₃ n 0 ≡ all
   unfolding legs second_leg
-  on_second w₃ m a h q ea r = rw (← is_y, h) (r 0 ∙ each_plus_times n (slot w₂ n 1) (slot w₂ n 2) a ∙ rw (ea, q.measure radius along, q.pu_stays, q.across, p 0, p 1))
+  on_second w₃ m a h q ea r = rw (← is_y, h) (r 0 ∙ zip_plus_times n (slot w₂ n 1) (slot w₂ n 2) a ∙ rw (ea, q.measure radius along, q.pu_stays, q.across, p 0, p 1))
 
 -- `lay`, by the curvature
 module _ (n : ℕ) (radius curvature : Float) (g H w w' : List Float) (r : Result Stepped Refusal) (e : curvature ≡ weighted n g H g) where

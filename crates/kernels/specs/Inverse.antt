@@ -119,7 +119,3 @@ inverse_answer n H out scratch = unless (inverse_checks n H out scratch) (then (
 
 abbrev pub rows_in : List Float → ℕ → Rows
 rows_in w n i = slot w (n + n) (4 + i)
-
--- the rows that were left, where r says that every pivot was taken
-unfoldable pub found : Bool → Rows → Answer Rows
-found r R = cond r (given R) (refused Pivot)

@@ -10,7 +10,6 @@ ghost use Rattle.kernels.specs.Dogleg as Dogleg;
 use crate::choice::Kernel;
 use crate::kernel::Stepped;
 use crate::subproblem::Subproblem;
-use crate::workspace::Op;
 use crate::{choice, inverse, kernel, workspace};
 use vectors::refusal::Refusal;
 use vectors::vector;
@@ -52,9 +51,10 @@ fn bent(n: usize, w: &mut [f64], tau: f64)
     ensures { slot w.new n 0 ≡ Dogleg.bent n tau (slot w.old n 1) (slot w.old n 2) }
 {
     if tau < 1.0 {
-        workspace::each(n, w, 0, Op::Times(tau), 1, 1);
+        workspace::map(n, w, 0, 1, |u| u * tau);
     } else {
-        workspace::each(n, w, 0, Op::PlusTimes(tau - 1.0), 1, 2);
+        let beyond = tau - 1.0;
+        workspace::zip(n, w, 0, 1, 2, |u, v| u + v * beyond);
     }
 }
 
@@ -64,11 +64,9 @@ pub(crate) fn newton(problem: &Subproblem, w: &mut [f64]) -> Result<(), Refusal>
     ensures { stands_for result (slot w.new problem.now.n 0) ≡ Dogleg.newton problem.now.n problem.now.gradient.now problem.now.hessian.now }
 {
     let n = problem.n;
-    if !inverse::eliminate(n, w, problem.hessian) {
-        return Err(Refusal::Pivot);
-    }
+    inverse::eliminate(n, w, problem.hessian)?;
     inverse::inverse_times(n, w, 0, problem.gradient);
-    workspace::each(n, w, 0, Op::Times(-1.0), 0, 0);
+    workspace::map(n, w, 0, 0, |x| x * -1.0);
     Ok(())
 }
 
@@ -85,7 +83,7 @@ pub(crate) fn measure(n: usize, w: &mut [f64]) -> Measures
     requires { 3 * n ≤ length w.old }
     ensures { Dogleg.Measures_in n w.old result w.new }
 {
-    workspace::each(n, w, 2, Op::Minus, 0, 1);
+    workspace::zip(n, w, 2, 0, 1, |b, u| b - u);
     Measures {
         c: workspace::dot(n, w, 1, 2),
         k: workspace::dot(n, w, 2, 2),

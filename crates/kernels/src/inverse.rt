@@ -3,11 +3,10 @@
 ghost use Rattle.std.specs.Prelude.{◌≡◌, [], ◌∷◌, ◌+◌, ◌*◌, ◌<◌, ◌≤◌, eqb, length};
 ghost use Rattle.vectors.specs.Vector.{tab, flat};
 ghost use Rattle.vectors.specs.Slots.{slot, Puts};
-ghost use Rattle.vectors.specs.Refusal.{all_hold, size, room, Roomy, Ended};
+ghost use Rattle.vectors.specs.Refusal.{all_hold, size, room, Roomy, stands_for, Ended};
 ghost use Rattle.kernels.specs.Inverse as Inverse;
 
 use crate::workspace;
-use crate::workspace::Op;
 use vectors::refusal::Refusal;
 use vectors::{refusal, vector};
 
@@ -17,13 +16,12 @@ fn start_entry(n: usize, h: &[f64], i: usize, k: usize) -> f64
     ensures { result ≡ Inverse.start_entry n h.now i k }
 {
     if k < n {
-        let from = i * n;
-        return h[from + k];
+        h[i * n + k]
+    } else if k == n + i {
+        1.0
+    } else {
+        0.0
     }
-    if k == n + i {
-        return 1.0;
-    }
-    0.0
 }
 
 fn start_row(n: usize, w: &mut [f64], i: usize, h: &[f64])
@@ -41,12 +39,11 @@ fn entry(n: usize, w: &[f64], i: usize, j: usize) -> f64
     requires { Roomy n (length w.now) × (i < n) × (j < n) }
     ensures { result ≡ Inverse.entry (Inverse.rows_in w.now n) i j }
 {
-    let width = n + n;
-    let from = (4 + i) * width;
-    w[from + j]
+    w[(4 + i) * (n + n) + j]
 }
 
 // Up to this magnitude a pivot counts as none. It is worked out once, before the rows change.
+#[tactic(auto, unfolding(crate::specs::Inverse::pivot_bound))]
 fn pivot_bound(h: &[f64]) -> f64
     ensures { result ≡ Inverse.pivot_bound h.now }
 {
@@ -55,6 +52,7 @@ fn pivot_bound(h: &[f64]) -> f64
 }
 
 // The one place that says which pivots end in refusal 6.
+#[tactic(auto, unfolding(crate::specs::Inverse::no_pivot))]
 fn no_pivot(bound: f64, x: f64) -> bool
     ensures { result ≡ Inverse.no_pivot bound x }
 {
@@ -67,10 +65,9 @@ fn move_row(n: usize, w: &mut [f64], j: usize, p: usize)
     ensures { (Inverse.rows_in w.new n ≡ Inverse.with_row (Inverse.rows_in w.old n) p (Inverse.rows_in w.old n j))
         × (slot w.new (n + n) 0 ≡ slot w.old (n + n) 0) }
 {
-    if j == p {
-        return;
+    if j != p {
+        workspace::copy(n + n, w, 4 + p, 4 + j);
     }
-    workspace::each(n + n, w, 4 + p, Op::Same, 4 + j, 4 + j);
 }
 
 // Swaps rows j and p and divides row j by its pivot: row p over it, which goes by way of the scratch's first numbers and stays
@@ -81,9 +78,9 @@ fn take_pivot(n: usize, w: &mut [f64], j: usize, p: usize)
         × (slot w.new (n + n) 0 ≡ Inverse.rows_in w.new n j) }
 {
     let pivot = entry(n, w, p, j);
-    workspace::each(n + n, w, 0, Op::Over(pivot), 4 + p, 4 + p);
+    workspace::map(n + n, w, 0, 4 + p, |x| x / pivot);
     move_row(n, w, j, p);
-    workspace::each(n + n, w, 4 + j, Op::Same, 0, 0);
+    workspace::copy(n + n, w, 4 + j, 0);
 }
 
 // Row j is read from the scratch's first numbers, apart from the rows that change: with it among them the
@@ -93,8 +90,8 @@ fn clear_row(n: usize, w: &mut [f64], j: usize, i: usize)
     ensures { (Inverse.rows_in w.new n ≡ Inverse.cleared_row n (Inverse.rows_in w.old n) j i)
         × (slot w.new (n + n) 0 ≡ slot w.old (n + n) 0) }
 {
-    let x = entry(n, w, i, j);
-    workspace::update(n + n, w, 4 + i, Op::LessTimes(x), 0);
+    let a = entry(n, w, i, j);
+    workspace::zip(n + n, w, 4 + i, 4 + i, 0, |x, y| x - a * y);
 }
 
 fn clear_rows(n: usize, w: &mut [f64], j: usize)
@@ -124,26 +121,26 @@ fn pivot_row(n: usize, w: &[f64], j: usize) -> usize
     p
 }
 
-// Column after column; false where one has no pivot.
-fn columns(n: usize, w: &mut [f64], bound: f64) -> bool
+// Column after column, unless one has no pivot.
+fn columns(n: usize, w: &mut [f64], bound: f64) -> Result<(), Refusal>
     requires { Roomy n (length w.old) }
-    ensures { Inverse.found result (Inverse.rows_in w.new n) ≡ Inverse.columns bound n n 0 (Inverse.rows_in w.old n) }
+    ensures { stands_for result (Inverse.rows_in w.new n) ≡ Inverse.columns bound n n 0 (Inverse.rows_in w.old n) }
 {
     for j in 0..n {
         let p = pivot_row(n, w, j);
         if no_pivot(bound, entry(n, w, p, j)) {
-            return false;
+            return Err(Refusal::Pivot);
         }
         take_pivot(n, w, j, p);
         clear_rows(n, w, j);
     }
-    true
+    Ok(())
 }
 
-// Leaves the rows of the elimination in w; false where a column has no pivot.
-pub(crate) fn eliminate(n: usize, w: &mut [f64], h: &[f64]) -> bool
+// Leaves the rows of the elimination in w, unless a column has no pivot.
+pub(crate) fn eliminate(n: usize, w: &mut [f64], h: &[f64]) -> Result<(), Refusal>
     requires { Roomy n (length w.old) × (length h.now ≡ n * n) }
-    ensures { Inverse.found result (Inverse.rows_in w.new n) ≡ Inverse.eliminated n h.now }
+    ensures { stands_for result (Inverse.rows_in w.new n) ≡ Inverse.eliminated n h.now }
 {
     for i in 0..n {
         start_row(n, w, i, h);
@@ -185,10 +182,7 @@ fn hand_out(n: usize, w: &[f64], out: &mut [f64])
 fn sized(n: usize, h: usize, out: usize, scratch: usize) -> bool
     ensures { result ≡ all_hold (size n ∷ eqb h (n * n) ∷ eqb out (n * n) ∷ eqb scratch (room n) ∷ []) }
 {
-    if !refusal::size(n) {
-        return false;
-    }
-    refusal::all_hold(&[h == n * n, out == n * n, scratch == 2 * (n * n) + 8 * n])
+    refusal::matrix(n, h) && out == n * n && scratch == 2 * (n * n) + 8 * n
 }
 
 // The inverse of h, into out.
@@ -196,17 +190,12 @@ pub fn inverse(n: usize, h: &[f64], out: &mut [f64], scratch: &mut [f64]) -> Res
     ensures { Ended (Inverse.inverse_answer n h.now out.old scratch.old)
         result out.old out.new scratch.old scratch.new }
 {
-    if !sized(n, h.len(), out.len(), scratch.len()) {
-        return Err(Refusal::Size);
+    Refusal::Size.unless(sized(n, h.len(), out.len(), scratch.len()))?;
+    Refusal::Entry.unless(vector::all_finite(h))?;
+    let found = eliminate(n, scratch, h);
+    if found.is_ok() {
+        hand_out(n, scratch, out);
     }
-    if !vector::all_finite(h) {
-        return Err(Refusal::Entry);
-    }
-    if !eliminate(n, scratch, h) {
-        vector::clear(scratch);
-        return Err(Refusal::Pivot);
-    }
-    hand_out(n, scratch, out);
     vector::clear(scratch);
-    Ok(())
+    found
 }

@@ -13,7 +13,6 @@ ghost use Rattle.kernels.specs.Steihaug.{listed, root_of, state_in, Keeps, passe
 use crate::choice::Kernel;
 use crate::kernel::Stepped;
 use crate::subproblem::Subproblem;
-use crate::workspace::Op;
 use crate::{choice, kernel, workspace};
 use vectors::refusal::Refusal;
 use vectors::vector;
@@ -84,7 +83,7 @@ fn value(problem: &Subproblem, w: &mut [f64], tau: f64) -> Valued
     requires { 8 * problem.now.n ≤ length w.old }
     ensures { (result ≡ valued_in problem.now w.old tau) × Keeps problem.now.n w.old w.new }
 {
-    workspace::each(problem.n, w, 6, Op::PlusTimes(tau), 0, 2);
+    workspace::zip(problem.n, w, 6, 0, 2, |p, d| p + d * tau);
     let model = problem.model(workspace::part(problem.n, w, 6));
     Valued { tau, model }
 }
@@ -151,7 +150,7 @@ fn stop_at(n: usize, w: &mut [f64], tau: f64) -> Turn
     requires { 8 * n ≤ length w.old }
     ensures { passed (Ok result) n w.new ≡ Steihaug.stops_at n (slot w.old n 0) (slot w.old n 2) (given tau) }
 {
-    workspace::each(n, w, 6, Op::PlusTimes(tau), 0, 2);
+    workspace::zip(n, w, 6, 0, 2, |p, d| p + d * tau);
     Turn::Boundary
 }
 
@@ -167,22 +166,22 @@ fn straight(
     requires { 8 * n ≤ length w.old }
     ensures { passed result n w.new ≡ Steihaug.straight n radius small (state_in w.old n rtr) (slot w.old n 3) alpha }
 {
-    workspace::each(n, w, 6, Op::PlusTimes(alpha), 0, 2);
+    workspace::zip(n, w, 6, 0, 2, |p, d| p + d * alpha);
     // equality is already outside
     if workspace::norm(n, w, 6) >= radius {
         let roots = roots_at(n, w, radius);
         let tau = forward(roots)?;
         return Ok(stop_at(n, w, tau));
     }
-    workspace::update(n, w, 1, Op::PlusTimes(alpha), 3);
+    workspace::zip(n, w, 1, 1, 3, |r, hd| r + hd * alpha);
     if workspace::norm(n, w, 1) < small {
         return Ok(Turn::Inside);
     }
     // on to the next pass, from q and s
     let ss = workspace::dot(n, w, 1, 1);
     let beta = ss / rtr;
-    workspace::each(n, w, 2, Op::TurnedPlusTimes(beta), 1, 2);
-    workspace::each(n, w, 0, Op::Same, 6, 6);
+    workspace::zip(n, w, 2, 1, 2, |s, d| s * -1.0 + d * beta);
+    workspace::copy(n, w, 0, 6);
     Ok(Turn::WentOn(ss))
 }
 
@@ -247,7 +246,7 @@ fn settle_chosen(n: usize, w: &mut [f64], passes: u64) -> Result<Stepped, Refusa
     requires { 8 * n ≤ length w.old }
     ensures { Reached (handed_out (made passes (slot w.old n 6))) result w.old w.new }
 {
-    workspace::each(n, w, 0, Op::Same, 6, 6);
+    workspace::copy(n, w, 0, 6);
     kernel::settle(n, w, passes)
 }
 

@@ -12,7 +12,6 @@ use crate::choice::Kernel;
 use crate::dogleg::Measures;
 use crate::kernel::Stepped;
 use crate::subproblem::Subproblem;
-use crate::workspace::Op;
 use crate::{cauchypoint, choice, dogleg, kernel, workspace};
 use vectors::refusal::Refusal;
 use vectors::vector;
@@ -38,11 +37,12 @@ fn outside(problem: &Subproblem, curvature: f64, w: &mut [f64])
     let norm = workspace::norm(n, w, 1);
     // equality ends on the first leg: its factor is 1 there
     if norm >= problem.radius {
-        workspace::each(n, w, 0, Op::Times(problem.radius / norm), 1, 1);
+        let factor = problem.radius / norm;
+        workspace::map(n, w, 0, 1, |u| u * factor);
         return;
     }
     let far = along(dogleg::measure(n, w), problem.radius * problem.radius);
-    workspace::each(n, w, 0, Op::PlusTimes(far), 1, 2);
+    workspace::zip(n, w, 0, 1, 2, |u, v| u + v * far);
 }
 
 // The kernel, over a scratch of the right size.

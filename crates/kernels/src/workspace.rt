@@ -1,5 +1,5 @@
 // Vectors of n numbers in the lent scratch w. Slot k is its k-th run of n numbers.
-ghost use Rattle.std.specs.Prelude.{◌≡◌, false, ◌+◌, ◌*◌, ◌≤◌, eqb, length};
+ghost use Rattle.std.specs.Prelude.{◌≡◌, false, ◌+◌, ◌*◌, ◌≤◌, eqb, length, Float};
 ghost use Rattle.vectors.specs.Vector as Vector;
 ghost use Rattle.vectors.specs.Slots.{slot, Puts};
 ghost use Rattle.vectors.specs.Refusal.{Square};
@@ -7,57 +7,51 @@ ghost use Rattle.kernels.specs.Workspace as Workspace;
 
 use vectors::vector;
 
-// x; x·a; x + y·a; x·(−1) + y·a; x − y; x / a; x − a·y.
-#[derive(Clone, Copy)]
-pub enum Op {
-    Same,
-    Times(f64),
-    PlusTimes(f64),
-    TurnedPlusTimes(f64),
-    Minus,
-    Over(f64),
-    LessTimes(f64),
-}
-
-fn apply(op: Op, x: f64, y: f64) -> f64
-    ensures { result ≡ Workspace.apply op x y }
+// Slot to takes f of the numbers of slot x.
+pub(crate) fn map<F: Fn(f64) -> f64>(n: usize, w: &mut [f64], to: usize, x: usize, f: F)
+    ghost op: { Float → Float }
+    requires room { (to * n + n ≤ length w.old) × (x * n + n ≤ length w.old) }
+    requires calls { F.IsAlwaysCallable f }
+    requires gives { (a r : Float) → F.post f a r → r ≡ op a }
+    ensures { Puts w.old n to (Workspace.map n op (slot w.old n x)) w.new }
 {
-    match op {
-        Op::Same => x,
-        Op::Times(a) => x * a,
-        Op::PlusTimes(a) => x + y * a,
-        Op::TurnedPlusTimes(a) => x * -1.0 + y * a,
-        Op::Minus => x - y,
-        Op::Over(a) => x / a,
-        Op::LessTimes(a) => x - a * y,
+    let start = to * n;
+    let from = x * n;
+    for i in 0..n {
+        w[start + i] = f(w[from + i]);
     }
 }
 
-// Slot to takes op of slots x and y.
-pub(crate) fn each(n: usize, w: &mut [f64], to: usize, op: Op, x: usize, y: usize)
-    requires { (to * n + n ≤ length w.old) × (x * n + n ≤ length w.old) × (y * n + n ≤ length w.old) }
-    ensures { Puts w.old n to (Workspace.each n op (slot w.old n x) (slot w.old n y)) w.new }
+// Slot to takes f of the numbers of slots x and y.
+pub(crate) fn zip<F: Fn(f64, f64) -> f64>(
+    n: usize,
+    w: &mut [f64],
+    to: usize,
+    x: usize,
+    y: usize,
+    f: F,
+)
+    ghost op: { Float → Float → Float }
+    requires room { (to * n + n ≤ length w.old) × (x * n + n ≤ length w.old) × (y * n + n ≤ length w.old) }
+    requires calls { F.IsAlwaysCallable f }
+    requires gives { (a b r : Float) → F.post f a b r → r ≡ op a b }
+    ensures { Puts w.old n to (Workspace.zip n op (slot w.old n x) (slot w.old n y)) w.new }
 {
     let start = to * n;
     let from = x * n;
     let by = y * n;
     for i in 0..n {
-        w[start + i] = apply(op, w[from + i], w[by + i]);
+        w[start + i] = f(w[from + i], w[by + i]);
     }
 }
 
-// Slot to takes op of itself and slot y. With one place less to read the machine can take several
-// numbers at a time.
-pub(crate) fn update(n: usize, w: &mut [f64], to: usize, op: Op, y: usize)
-    requires { (to * n + n ≤ length w.old) × (y * n + n ≤ length w.old) }
-    ensures { Puts w.old n to (Workspace.each n op (slot w.old n to) (slot w.old n y)) w.new }
+// Slot to takes slot x.
+pub(crate) fn copy(n: usize, w: &mut [f64], to: usize, x: usize)
+    requires { (to * n + n ≤ length w.old) × (x * n + n ≤ length w.old) }
+    ensures { Puts w.old n to (slot w.old n x) w.new }
 {
-    let start = to * n;
-    let by = y * n;
-    for i in 0..n {
-        let at = start + i;
-        w[at] = apply(op, w[at], w[by + i]);
-    }
+    let from = x * n;
+    w.copy_within(from..from + n, to * n);
 }
 
 // Slot k, as that part of w.

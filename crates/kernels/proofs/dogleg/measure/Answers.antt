@@ -5,4 +5,4 @@ use Rattle.kernels.proofs.dogleg.measure.Goals as goal
 pub returns : goal.returns
 returns c =
     let c' = c in
-    measured_here _ _ _ _ c'.each.ensures c'.dot.ensures c.dot-2.ensures c.dot-3.ensures
+    measured_here _ _ _ _ c'.zip.ensures c'.dot.ensures c.dot-2.ensures c.dot-3.ensures

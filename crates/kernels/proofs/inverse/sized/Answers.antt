@@ -1,41 +1,20 @@
 -- `kernels::inverse::sized` meets its contract. Assumes nothing.
-use Prim.Native.Nat.{◌*◌, ◌≤◌}
+use mathlib.Core.Path.{sym, ◌∙◌}
 use native.Mathlib.Omega.{arith}
-use Rattle.vectors.proofs.Sizes.{failed, passed, size_small}
+use Rattle.vectors.proofs.Sizes.{square_small, square_true}
 use Rattle.kernels.proofs.inverse.sized.Goals as goal
+use Rattle.kernels.proofs.inverse.sized.Goals.{then-matrix, else-matrix}
 
-pub returns-then-not-size : goal.returns-then-not-size
-returns-then-not-size c = rw (failed c.size.ensures c.if-not-size.true)
+pub overflow_mul-result-then-out-n : goal.overflow_mul-result-then-out-n
+overflow_mul-result-then-out-n c =
+    elim c.if-matrix.branch [
+      | then-matrix v ↦ let s = square_true _ _ (sym c.matrix.ensures ∙ v.if-matrix.true) in omega (arith, square_small _ s.high)
+      | else-matrix v ↦ cc
+    ]
 
-pub overflow_mul-n : goal.overflow_mul-n
-overflow_mul-n c =
-    let small : let n = c.args.n in (n * n ≤ 4096) × (n ≤ 64) = size_small _ (passed c.size.ensures c.if-not-size.false) in
-    omega (arith, small)
-
-pub overflow_mul-n-2 : goal.overflow_mul-n-2
-overflow_mul-n-2 c =
-    let small : let n = c.args.n in (n * n ≤ 4096) × (n ≤ 64) = size_small _ (passed c.size.ensures c.if-not-size.false) in
-    omega (arith, small)
-
-pub overflow_mul-n-3 : goal.overflow_mul-n-3
-overflow_mul-n-3 c =
-    let small : let n = c.args.n in (n * n ≤ 4096) × (n ≤ 64) = size_small _ (passed c.size.ensures c.if-not-size.false) in
-    omega (arith, small)
-
-pub overflow_mul-n-4 : goal.overflow_mul-n-4
-overflow_mul-n-4 c =
-    let small : let n = c.args.n in (n * n ≤ 4096) × (n ≤ 64) = size_small _ (passed c.size.ensures c.if-not-size.false) in
-    omega (arith, small)
-
-pub overflow_mul-n-5 : goal.overflow_mul-n-5
-overflow_mul-n-5 c =
-    let small : let n = c.args.n in (n * n ≤ 4096) × (n ≤ 64) = size_small _ (passed c.size.ensures c.if-not-size.false) in
-    omega (arith, small)
-
-pub overflow_add-n : goal.overflow_add-n
-overflow_add-n c =
-    let small : let n = c.args.n in (n * n ≤ 4096) × (n ≤ 64) = size_small _ (passed c.size.ensures c.if-not-size.false) in
-    omega (arith, small)
-
-pub returns : goal.returns
-returns c = rw (passed c.size.ensures c.if-not-size.false) c.all_hold.ensures
+pub overflow_add-result : goal.overflow_add-result
+overflow_add-result c =
+    elim c.if-matrix.branch [
+      | then-matrix v ↦ let s = square_true _ _ (sym c.matrix.ensures ∙ v.if-matrix.true) in omega (arith, square_small _ s.high, s.high)
+      | else-matrix v ↦ cc
+    ]

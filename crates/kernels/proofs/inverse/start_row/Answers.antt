@@ -5,4 +5,4 @@ use Rattle.kernels.proofs.Rows.{row_room}
 use Rattle.kernels.proofs.inverse.start_row.Goals as goal
 
 pub returns : goal.returns
-returns c = puts_part _ _ _ _ _ _ (row_room c.requires.0 c.args.i c.requires.1) (search rules) (search rules) (λ k h. c.loop-k.invariant k (search rules))
+returns c = puts_part _ _ _ (row_room c.requires.0 c.args.i c.requires.1) _ _ _ (search rules) (search rules) (λ k h. c.loop-k.invariant k (search rules))

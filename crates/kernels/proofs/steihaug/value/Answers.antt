@@ -6,5 +6,5 @@ use Rattle.kernels.proofs.steihaug.value.Goals as goal
 
 pub returns : goal.returns
 returns c =
-    let put = c.each.ensures in
+    let put = c.zip.ensures in
     (valued_here _ _ _ _ _ _ _ put (c.model-model.ensures ∙ ap (model _ _ _) c.part.ensures.0), (put 0, put 2))

@@ -4,8 +4,8 @@ use Rattle.kernels.proofs.textbook.outside.Goals as goal
 
 pub returns-then-norm-problem : goal.returns-then-norm-problem
 returns-then-norm-problem c =
-    on_first _ _ _ _ _ _ _ _ c.unconstrained.ensures c.norm-norm.ensures c.if-norm-problem.true c.each.ensures
+    on_first _ _ _ _ _ _ _ _ c.unconstrained.ensures c.norm-norm.ensures c.if-norm-problem.true c.map.ensures
 
 pub returns : goal.returns
 returns c =
-    on_second _ _ _ _ _ _ _ _ c.unconstrained.ensures c.norm-norm.ensures _ _ _ c.if-norm-problem.false c.measure.ensures c.along-far.ensures c.each-2.ensures
+    on_second _ _ _ _ _ _ _ _ c.unconstrained.ensures c.norm-norm.ensures _ _ _ c.if-norm-problem.false c.measure.ensures c.along-far.ensures c.zip.ensures

@@ -10,4 +10,4 @@ pub returns : goal.returns
 returns c =
     let a = c.args in
     rw (tab_at a.v.now a.n c.requires.1) at
-    (puts_part a.w.now c.loop-i.x-items a.n a.to (a.to * a.n + a.n - a.to * a.n) (at a.v.now) c.requires.0 (search rules) (search rules) (λ k h. c.loop-i.invariant k (search rules)))
+    (puts_part a.w.now a.n a.to c.requires.0 c.loop-i.x-items (a.to * a.n + a.n - a.to * a.n) (at a.v.now) (search rules) (search rules) (λ k h. c.loop-i.invariant k (search rules)))

@@ -5,4 +5,4 @@ use Rattle.kernels.proofs.workspace.put_times.Goals as goal
 
 pub returns : goal.returns
 unfolding scale
-returns c = puts_part _ _ _ _ _ _ c.requires.0 (search rules) (search rules) (λ k h. c.loop-i.invariant k (search rules))
+returns c = puts_part _ _ _ c.requires.0 _ _ _ (search rules) (search rules) (λ k h. c.loop-i.invariant k (search rules))

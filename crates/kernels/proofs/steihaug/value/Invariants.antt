@@ -1,0 +1,5 @@
+use Rattle.float.specs.Numbers.{◌⊕◌, ◌⊗◌}
+use Rattle.kernels.proofs.steihaug.value.Given as goal
+
+abbrev pub ghost-zip : goal.ghost-zip
+ghost-zip a = λ p d. p ⊕ d ⊗ a.f.0.now
