@@ -10,29 +10,17 @@ use crate::workspace;
 use vectors::refusal::Refusal;
 use vectors::{refusal, vector};
 
-// Number k of row i of [H | I].
-fn start_entry(n: usize, h: &[f64], i: usize, k: usize) -> f64
-    requires { (n ≤ 64) × (length h.now ≡ n * n) × (i < n) }
-    ensures { result ≡ Inverse.start_entry n h.now i k }
-{
-    if k < n {
-        h[i * n + k]
-    } else if k == n + i {
-        1.0
-    } else {
-        0.0
-    }
-}
-
+// Row i of [H | I].
 fn start_row(n: usize, w: &mut [f64], i: usize, h: &[f64])
     requires { Roomy n (length w.old) × (i < n) × (length h.now ≡ n * n) }
     ensures { Puts w.old (n + n) (4 + i) (tab (n + n) (Inverse.start_entry n h.now i)) w.new }
 {
     let width = n + n;
     let from = (4 + i) * width;
-    for (k, x) in w[from..from + width].iter_mut().enumerate() {
-        *x = start_entry(n, h, i, k);
-    }
+    let row = &mut w[from..from + width];
+    row[..n].copy_from_slice(&h[i * n..i * n + n]);
+    row[n..].fill(0.0);
+    row[n + i] = 1.0;
 }
 
 fn entry(n: usize, w: &[f64], i: usize, j: usize) -> f64
