@@ -1,5 +1,4 @@
 -- `kernels::steihaug::settle_chosen` meets its contract. Assumes nothing.
-use borrow.Author.Rules.{rules}
 use Rattle.kernels.proofs.Passes.{moved_laid}
 use Rattle.kernels.proofs.steihaug.settle_chosen.Goals as goal
 

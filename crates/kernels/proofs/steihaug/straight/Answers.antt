@@ -1,7 +1,6 @@
 -- `kernels::steihaug::straight` meets its contract. Assumes nothing.
 use Rattle.std.proofs.lemmas.Result.{err_from_is_err_and}
 use mathlib.Core.Path.{refl}
-use borrow.Author.Rules.{rules}
 use Rattle.kernels.proofs.Passes.{put_ahead, put_turned, forward_here, onward_here, outside, small_enough, not_yet}
 use Rattle.kernels.proofs.steihaug.straight.Goals as goal
 
