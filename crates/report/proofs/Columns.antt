@@ -3,8 +3,9 @@ use Rattle.std.proofs.Common.{◌≡◌, ℕ, zero, suc, ◌+◌, ◌-◌, ◌<�
 use native.Mathlib.Nat.{sub-zero, zero-sub, suc-sub-suc}
 use lib.Ieee.{Float, nan, binary64, to_bits}
 use Rattle.words.specs.Words.{placed}
+use Rattle.words.proofs.Laws.{placed_here}
 use Rattle.decimal.specs.Text.{told}
-use Rattle.decimal.proofs.Puts.{by_test, front}
+use Rattle.decimal.proofs.Puts.{by_test}
 use Rattle.decimal.proofs.Short.{short}
 use Rattle.stream.specs.Pieces.{Piece, Puts}
 use Rattle.stream.proofs.Pieces.{puts_append}
@@ -48,7 +49,7 @@ module _ (bytes : List ℕ) (x : Float) (room : 24 ≤ length bytes) where
 
   pub written : take (told bytes (decimal_of x)) (placed bytes 0 (decimal_of x)) ≡ decimal_of x
   written =
-      front {bytes = bytes} {n = told bytes (decimal_of x)} (record { place = omega (arith, told_all); there = refl }) (omega (arith, short (to_bits binary64 x)))
+      rw told_all (placed_here bytes 0 (decimal_of x) (omega (arith, short (to_bits binary64 x))))
 
 -- ---- the lines of a point
 

