@@ -9,10 +9,10 @@ use lib.ListN.{length}
 use lib.Ieee.{Float}
 use Rattle.float.specs.Constants.{nought}
 use Rattle.vectors.specs.Vector.{zeros}
-use Rattle.vectors.specs.Refusal.{Answer, refused, given, Check, unless, judged, checked, then, untouched_by, scratch_after}
+use Rattle.vectors.specs.Refusal.{Answer, refused, given, Check, unless, judged, then, untouched_by, scratch_after}
 use Rattle.offer.specs.State.{result_of}
 use Rattle.vectors.specs.declared.refusal.Refusal.{Refusal}
-use Rattle.std.specs.Prelude.{Result, Ok, Err}
+use Rattle.std.specs.Prelude.{Ok, Err}
 use Rattle.vectors.proofs.Vectors.{length_tab}
 
 -- no check of the list applies
@@ -95,11 +95,6 @@ scratch_length (refused r) v = cond_elim (λ (x : List Float). length x ≡ leng
 scratch_length (given x) v = zeros_length (length v)
 
 -- ---- what the code makes of an answer
-
--- what was asked by `?` was wrong
-pub was_wrong : (r : Refusal) (b : Bool) {e : Refusal} → ◌≡◌ {A = Result (Unit {0}) Refusal} (Err e) (checked r b) → (b ≡ false) × (e ≡ r)
-was_wrong r true e = let z : ◌≡◌ {A = ℕ} 0 1 = cc in absurd (omega arith)
-was_wrong r false e = (refl, cc)
 
 pub is_refused : {A : Type 0} (a : Answer A) {r : Refusal} → Err r ≡ result_of a → a ≡ refused r
 is_refused (refused x) e = cc

@@ -1,4 +1,4 @@
--- A session of any kind: its start, what is known of a sound one, and its proposal, which follows what was offered. Assumes nothing.
+-- A session of any kind: what is known of a sound one, and its proposal, which follows what was offered. Assumes nothing.
 use mathlib.Core.Path.{◌≡◌, sym, ap, ◌∙◌}
 use mathlib.Core.Bool.{Bool, true}
 use mathlib.Core.List.{List, [], ◌∷◌}
@@ -7,16 +7,14 @@ use native.Mathlib.Omega.{arith}
 use lib.Dec.{leb}
 use lib.Ieee.{Float}
 use Rattle.std.specs.Prelude.{Result, Ok, Err}
-use Rattle.float.specs.Numbers.{finite}
-use Rattle.vectors.specs.Refusal.{Answer, refused, given, unless, then, judged}
+use Rattle.vectors.specs.Refusal.{Answer, refused, given, unless, then}
 use Rattle.vectors.specs.declared.refusal.Refusal.{Refusal}
 use Rattle.vectors.specs.declared.refusal.Refusal.TheVariants.{Turn}
 use Rattle.vectors.proofs.Sizes.{each_holds}
-use Rattle.kernels.proofs.Kernels.{unless_passed, unless_failed}
-use Rattle.offer.specs.State.{begin, in_phase, steady, promised, result_of}
-use Rattle.offer.specs.Offer.{start_checks, proposal_checks, Offer, stepping}
-use Rattle.offer.specs.Session.{Kind, Lawful, turned, Proposal, chosen, sound, start, asking, awaiting, proposal}
-use Rattle.offer.specs.Calls.{early_checks, offering, Offers, saying, after_offer, Proposes}
+use Rattle.offer.specs.State.{in_phase, steady, promised, result_of}
+use Rattle.offer.specs.Offer.{proposal_checks, Offer, stepping}
+use Rattle.offer.specs.Session.{Kind, Lawful, turned, Proposal, chosen, sound, asking, awaiting, proposal}
+use Rattle.offer.specs.Calls.{offering, Offers, saying, after_offer, Proposes}
 use Rattle.offer.specs.declared.Offered.{Offered}
 use Rattle.offer.specs.declared.session.Session.{Session}
 use Rattle.offer.specs.declared.state.State.{State}
@@ -34,19 +32,6 @@ out_of_turn AwaitingDerivatives e = cc
 out_of_turn (AwaitingCost value norm) e = let z : ◌≡◌ {A = ℕ} 0 1 = cc in absurd (omega arith)
 
 module _ {S : Type 0} (kind : Kind S) where
-  -- ---- the start; b and d are what the code found of the settings and of the cost
-
-  module _ (t : S) (f : Float) (b d : Bool) (in-range : b ≡ kind.in_range t) (is-finite : d ≡ finite f) where
-    same_checks : judged (early_checks true b true d) ≡ judged (start_checks (kind.in_range t) f)
-    same_checks = rw (in-range, is-finite)
-
-    pub starts_not : (r : Refusal) → Err r ≡ judged (early_checks true b true d) → Err r ≡ result_of (start kind t f)
-    starts_not r e = rw (unless_failed (start_checks (kind.in_range t) f) _ r (sym (e ∙ same_checks)))
-
-    pub starts : Ok tt ≡ judged (early_checks true b true d) → (radius : Float) → radius ≡ kind.first_radius t → (state : State) → state ≡ begin radius f
-        → Ok (record { settings = t; state = state }) ≡ result_of (start kind t f)
-    starts e radius first state is = rw (is, first, unless_passed (start_checks (kind.in_range t) f) _ (sym (e ∙ same_checks)))
-
   -- ---- a sound session
 
   -- what it was asked

@@ -13,11 +13,11 @@ use Rattle.std.specs.Prelude.{Ok, Err}
 use Rattle.float.specs.Numbers.{finite}
 use Rattle.float.proofs.Commute.{mul_commutes}
 use Rattle.vectors.specs.Vector.{zeros, dot_to, dot, all_finite}
-use Rattle.vectors.specs.Refusal.{Answer, refused, given, Check, ◌if◌, unless, then, judged, checked, all_hold, sized, Square}
+use Rattle.vectors.specs.Refusal.{Answer, refused, given, Check, ◌if◌, unless, then, judged, all_hold, sized, Square}
 use Rattle.vectors.specs.declared.refusal.Refusal.{Refusal}
 use Rattle.vectors.specs.declared.refusal.Refusal.TheVariants.{Size, Setting, Entry, Range}
 use Rattle.vectors.proofs.Sizes.{Each, each_holds, was_right, and_true}
-use Rattle.kernels.proofs.Kernels.{unless_passed, unless_failed, early, first_passed}
+use Rattle.kernels.proofs.Kernels.{unless_passed, unless_failed, early, first_passed, was_wrong}
 use Rattle.offer.specs.Offer.{all_sized, proposal_checks, Offer, stepping}
 use Rattle.offer.specs.State.{result_of, moved, counted, Promise, promised}
 use Rattle.offer.specs.Session as any
@@ -26,7 +26,7 @@ use Rattle.offer.specs.Calls.{early_checks, replaced, saying}
 use Rattle.offer.specs.declared.state.State.{State}
 use Rattle.offer.specs.declared.state.Phase.TheVariants.{Ready}
 use Rattle.offer.specs.declared.state.Said.TheVariants.{Done, Accepted, Rejected}
-use Rattle.offer.proofs.Checks.{passed_none, then_unless, not_not, was_wrong, is_refused, is_given}
+use Rattle.offer.proofs.Checks.{passed_none, then_unless, not_not, is_refused, is_given}
 use Rattle.offer.proofs.Lengths.{Lent, lent_true, copied}
 use Rattle.offer.proofs.Offers.{offered_elim}
 use Rattle.offer.proofs.Sessions as sessions
@@ -164,9 +164,9 @@ module _ (s : Session) (n : ℕ) (F : Float) (new_gradient point step trial grad
     abbrev judges_by : After → (point' gradient' hessian' scratch' : List Float) → Type 0
     judges_by = Judges (judge s n F new_gradient point step trial gradient hessian p) s point gradient hessian scratch
 
-    pub judge_unanswered : (r : Refusal) (b : Bool) → b ≡ answered → Err r ≡ checked Entry b → judges_by (saying s (Err r)) point gradient hessian scratch
+    pub judge_unanswered : answered ≡ false → judges_by (saying s (Err Entry)) point gradient hessian scratch
     unfolding judge
-    judge_unanswered r b is e = let w = was_wrong Entry b e in rw (w.1, sym is ∙ w.0) (record { says = refl; leaves_point = refl; leaves_gradient = refl; leaves_hessian = refl; leaves_scratch = refl })
+    judge_unanswered a = rw a (record { says = refl; leaves_point = refl; leaves_gradient = refl; leaves_hessian = refl; leaves_scratch = refl })
 
     abbrev ratio : Float
     ratio = fall_ratio s.state.cost F p.value
@@ -187,7 +187,7 @@ module _ (s : Session) (n : ℕ) (F : Float) (new_gradient point step trial grad
       module _ (b : finite next ≡ true) (hessian' scratch' : List Float) (z : scratch' ≡ zeros (length scratch)) where
         pub judge_not_finite : (r : Refusal) → Updates next_hessian (Err r) hessian hessian' → judges_by (saying s (Err r)) point gradient hessian' scratch'
         judge_not_finite r u =
-            let w = was_wrong Range (all_finite next_hessian) u.says in
+            let w = was_wrong Range r (all_finite next_hessian) u.says in
             rw (w.1, on_answer, b, w.0) (record { says = refl; leaves_point = refl; leaves_gradient = refl; leaves_hessian = u.leaves ∙ rw w.0; leaves_scratch = z })
 
         module _ (u : Updates next_hessian (Ok tt) hessian hessian') (count : ℕ) (is-count : count ≡ counted F s.state.count) (state : State) where

@@ -16,12 +16,9 @@ use Rattle.float.specs.Constants.{one}
 use Rattle.vectors.specs.Vector as Vector
 use Rattle.vectors.specs.Vector.{at, tab, flat, dot, times_at, minus, all_finite}
 use Rattle.vectors.specs.Slots.{slot, Puts}
-use Rattle.vectors.specs.Refusal.{checked}
 use Rattle.vectors.specs.declared.refusal.Refusal.{Refusal}
 use Rattle.vectors.specs.declared.refusal.Refusal.TheVariants.{Range}
-use Rattle.vectors.proofs.Sizes.{was_right}
 use Rattle.vectors.proofs.Vectors.{at_tab, tab_same, at_times}
-use Rattle.offer.proofs.Checks.{was_wrong}
 use Rattle.kernels.proofs.Rows.{Laying, laying_none, laying_more₀, laid_flat}
 use Rattle.sr1.specs.Session.{residual, ported_rule, book_rule, updates, gained_row, gained, updated_by, updated}
 use Rattle.sr1.specs.Calls.{Updates}
@@ -142,15 +139,15 @@ module _ (n : ℕ) (t : Settings) (norm : Float) (hessian step z : List Float) (
   unfolding updated_by
   kept u a = rw (← is_q, u) (record { says = rw a; leaves = rw a })
 
-  -- b is what the code found of the entries that are to come
-  module _ (u : updates t norm z q ≡ true) (b : Bool) (is-finite : b ≡ all_finite (gained n hessian z (one ⊘ q))) where
-    pub not_finite : (r : Refusal) → Err r ≡ checked Range b → Updates (updated_by n t norm hessian step z) (Err r) hessian hessian
+  module _ (u : updates t norm z q ≡ true) where
+    pub not_finite : all_finite (gained n hessian z (one ⊘ q)) ≡ false → Updates (updated_by n t norm hessian step z) (Err Range) hessian hessian
     unfolding updated_by
-    not_finite r e = let w = was_wrong Range b e in let bad = sym is-finite ∙ w.0 in rw (w.1, ← is_q, u) (record { says = rw bad; leaves = rw bad })
+    not_finite a = rw (← is_q, u) (record { says = rw a; leaves = rw a })
 
-    pub written : (hessian' : List Float) → Ok tt ≡ checked Range b → hessian' ≡ gained n hessian z (one ⊘ q) → Updates (updated_by n t norm hessian step z) (Ok tt) hessian hessian'
+    pub written : (hessian' : List Float) → all_finite (gained n hessian z (one ⊘ q)) ≡ true → hessian' ≡ gained n hessian z (one ⊘ q)
+        → Updates (updated_by n t norm hessian step z) (Ok tt) hessian hessian'
     unfolding updated_by
-    written hessian' e is = let good = sym is-finite ∙ was_right Range b e in rw (← is_q, u) (record { says = rw good; leaves = is ∙ rw good })
+    written hessian' a e = rw (← is_q, u) (record { says = rw a; leaves = e ∙ rw a })
 
 -- z stands at the start of the scratch
 pub by_residual : (n : ℕ) (t : Settings) (norm : Float) (new_gradient gradient hessian step z : List Float) (r : Result (Unit {0}) Refusal) (hessian' : List Float) → z ≡ residual n new_gradient gradient hessian step

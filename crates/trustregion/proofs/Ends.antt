@@ -11,7 +11,7 @@ use borrow.Author.Tests.{eqb-true}
 use Rattle.std.specs.Prelude.{Ok, Err}
 use Rattle.float.specs.Numbers.{finite}
 use Rattle.vectors.specs.Vector.{all_finite}
-use Rattle.vectors.specs.Refusal.{given, then, judged, checked, all_hold, size, sized}
+use Rattle.vectors.specs.Refusal.{given, then, judged, all_hold, size, sized}
 use Rattle.vectors.specs.declared.refusal.Refusal.{Refusal}
 use Rattle.vectors.specs.declared.refusal.Refusal.TheVariants.{Entry, Range}
 use Rattle.vectors.proofs.Sizes.{each_holds, vectors_true}
@@ -23,7 +23,7 @@ use Rattle.offer.specs.Calls.{early_checks, replaced, saying}
 use Rattle.offer.specs.declared.state.State.{State}
 use Rattle.offer.specs.declared.state.Phase.TheVariants.{Ready, AwaitingDerivatives}
 use Rattle.offer.specs.declared.state.Said.TheVariants.{Accepted, Rejected, Taken}
-use Rattle.offer.proofs.Checks.{passed_none, not_not, was_wrong, is_refused, is_given}
+use Rattle.offer.proofs.Checks.{passed_none, not_not, is_refused, is_given}
 use Rattle.offer.proofs.Lengths.{copied}
 use Rattle.offer.proofs.Sessions as sessions
 use Rattle.trustregion.specs.Session.{Session, kind, sound, turned, rho, radius_by, settled, verdict, judge, judgement_checks, judgement, renewal_sized, renewal_checks, renewed_by, renewal}
@@ -54,10 +54,9 @@ module _ (s : Session) (F : Float) (point trial : List Float) (p : Promise) wher
   abbrev judges_by : After → (point' : List Float) → Type 0
   judges_by = Judges (judge s F point trial p) s point
 
-  -- a refusal, and what the code found of that which it was asked of
-  pub judge_unanswered : (r : Refusal) (b : Bool) → b ≡ answered → Err r ≡ checked Entry b → judges_by (saying s (Err r)) point
+  pub judge_unanswered : answered ≡ false → judges_by (saying s (Err Entry)) point
   unfolding judge
-  judge_unanswered r b is e = let w = was_wrong Entry b e in rw (w.1, sym is ∙ w.0) (record { says = refl; leaves_point = refl })
+  judge_unanswered a = rw a (record { says = refl; leaves_point = refl })
 
   -- the code's ratio and next radius
   module _ (a : answered ≡ true) (x next : Float) (is-ratio : x ≡ rho s.state.cost F p.value) (is-next : next ≡ radius_by s x p.norm) where
@@ -65,8 +64,8 @@ module _ (s : Session) (F : Float) (point trial : List Float) (p : Promise) wher
     unfolding judge
     on_answer = rw (a, is-next, is-ratio)
 
-    pub judge_far : (r : Refusal) (b : Bool) → b ≡ finite next → Err r ≡ checked Range b → judges_by (saying s (Err r)) point
-    judge_far r b is e = let w = was_wrong Range b e in rw (w.1, on_answer, sym is ∙ w.0) (record { says = refl; leaves_point = refl })
+    pub judge_far : finite next ≡ false → judges_by (saying s (Err Range)) point
+    judge_far b = rw (on_answer, b) (record { says = refl; leaves_point = refl })
 
     module _ (b : finite next ≡ true) (count : ℕ) (is-count : count ≡ counted F s.state.count) (state : State) where
       settles : judge s F point trial p ≡ given (settled s F x next point trial)

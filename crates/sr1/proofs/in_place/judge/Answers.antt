@@ -1,14 +1,15 @@
 -- `sr1::in_place::judge` meets its contract. Assumes nothing.
 use Rattle.std.proofs.lemmas.Result.{err_from_is_err_and}
 use Rattle.vectors.proofs.Sizes.{failed, passed, was_right}
+use Rattle.kernels.proofs.Kernels.{by_check}
 use Rattle.offer.proofs.Counts.{counted_small}
 use Rattle.sr1.proofs.Ends.{renew_ready, count_ready, judge_unanswered, judge_far, judge_not_finite, judge_accepts, judge_rejects}
 use Rattle.sr1.proofs.in_place.judge.Goals as goal
 
 pub returns-in_err-unless : goal.returns-in_err-unless
 returns-in_err-unless c =
-    let p = err_from_is_err_and c.from_residual.result c.from_residual.ensures.1 in
-    rw (p.1, p.2) (judge_unanswered _ _ _ _ _ _ _ _ _ _ _ _ _ c.answered.ensures c.in_err-unless.ensures)
+    let p = by_check _ _ _ _ c.from_residual.ensures.1 c.in_err-unless.ensures in
+    rw p.0 (judge_unanswered _ _ _ _ _ _ _ _ _ _ _ (failed c.answered.ensures p.1))
 
 pub returns-then-not-finite : goal.returns-then-not-finite
 returns-then-not-finite c =
