@@ -10,7 +10,6 @@ use Rattle.trustregion.specs.declared.settings.Settings as trustregion
 use Rattle.sr1.specs.declared.settings.Settings as sr1
 use Rattle.script.specs.declared.Kind.{Kind}
 use Rattle.script.specs.declared.Kind.TheVariants as kind
-use Rattle.script.specs.declared.Place.{Place}
 use Rattle.script.specs.declared.start.Start.{Start}
 use Rattle.script.specs.declared.start.Start.TheVariants as start
 use Rattle.script.specs.Places.{word, number, numbers}
@@ -122,9 +121,3 @@ lists_by false words point point' gradient gradient' hessian hessian' = Left poi
 pub record Decoded (words : List ℕ) (r : Option Start) (point point' gradient gradient' hessian hessian' : List Float) : Type 0 where
   pub says : r ≡ start_of words
   pub leaves : lists_by (is_whole words) words point point' gradient gradient' hessian hessian'
-
--- a place refers to the lists that it did
-pub record SamePlace (place place' : Place) : Type 0 where
-  pub point : place'.point.ghost_name ≡ place.point.ghost_name
-  pub gradient : place'.gradient.ghost_name ≡ place.gradient.ghost_name
-  pub hessian : place'.hessian.ghost_name ≡ place.hessian.ghost_name

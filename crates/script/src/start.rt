@@ -2,7 +2,8 @@
 // TrustRegion, 2 and 4 SR1TrustRegion. 3 and 4 alone have further settings: a word tells how many, and those that are missing have their defaults.
 ghost use Rattle.std.specs.Prelude.{◌≡◌, ◌≤◌};
 ghost use Rattle.script.specs.Start as Definition;
-ghost use Rattle.script.specs.Start.{Lists, Decoded, SamePlace};
+ghost use Rattle.script.specs.Start.{Lists, Decoded};
+ghost use Rattle.script.specs.Place.{SamePlace};
 
 use crate::{Kind, Place, places};
 use codec::Wholes;
