@@ -1,26 +1,22 @@
 -- What a call comes to on a station: one session of either kind, and the vectors that it is lent. Definitions only.
-use Rattle.std.specs.Prelude.{◌≡◌, List, Float}
+use Rattle.std.specs.Prelude.{◌≡◌, Result, Ok, Err, Float}
 use Rattle.vectors.specs.Refusal.{Answer, refused, given}
+use Rattle.vectors.specs.declared.refusal.Refusal.{Refusal}
 use Rattle.offer.specs.Run as Run
 use Rattle.offer.specs.Run.{Vectors}
 use Rattle.offer.specs.declared.state.State.{State}
-use Rattle.offer.specs.declared.state.Outcome.{Outcome}
+use Rattle.offer.specs.State.{Outcome}
 use Rattle.event.specs.Event.{said}
 use Rattle.event.specs.declared.Event.{Event}
 use Rattle.event.specs.declared.Event.TheVariants.{Changed, Bad}
 use Rattle.station.specs.declared.Session.{Session}
 use Rattle.station.specs.declared.After.{After}
-use Rattle.station.specs.declared.Begun.{Begun}
-use Rattle.station.specs.declared.Begun.TheVariants as begun
 
 abbrev pub Station : Type 0
 Station = Run.Station Session
 
 abbrev pub at : Session → Vectors → Station
 at s v = record { session = s; lent = v }
-
-abbrev pub lent : (point gradient hessian step trial scratch : List Float) → Vectors
-lent point gradient hessian step trial scratch = record { point = point; gradient = gradient; hessian = hessian; step = step; trial = trial; scratch = scratch }
 
 -- what happened, and the station afterwards
 pub record Happened : Type 0 where
@@ -33,13 +29,9 @@ module _ {S : Type 0} (either : S → Session) (state : S → State) where
   abbrev pub happened : Outcome → (F : Float) → Run.Station S → Happened
   happened o F s = record { event = said o F (state s.session).radius; after = at (either s.session) s.lent }
 
-  -- the same as the code returns it
-  abbrev pub told : S → Outcome → (F : Float) → After
-  told s o F = record { session = either s; event = said o F (state s).radius }
-
-  abbrev pub began : Answer S → Begun
-  began (refused r) = begun.Refused r
-  began (given s) = begun.Session (either s)
+  abbrev pub began : Answer S → Result Session Refusal
+  began (refused r) = Err r
+  began (given s) = Ok (either s)
 
 -- a caller puts another session there, or the words make no call: the vectors stay
 abbrev pub put : Session → Vectors → Happened

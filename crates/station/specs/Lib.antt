@@ -3,3 +3,4 @@ pub mod Happening
 pub mod TrustRegion
 pub mod Sr1
 pub mod Station
+pub mod Lists
