@@ -1,3 +1,1 @@
 pub mod Lists
-pub mod TrustRegion
-pub mod Sr1

@@ -1,13 +1,14 @@
 -- What both kinds of session share of their lists. Definitions only.
 -- Words: 10, their number; kernel, limit, allowance, dogleg, edition; phase, count; what the last call said, passes. Numbers: epsilon; radius, cost; promise and step norm; ratio.
-use Rattle.std.specs.Prelude.{◌≡◌, Bool, ◌&&◌, cond, List, [], ◌∷◌, ℕ, get_or, eqb, Float}
+use Rattle.std.specs.Prelude.{◌≡◌, Bool, ◌&&◌, cond, List, [], ◌∷◌, Ok, Err, ℕ, get_or, eqb, leb, Float}
 use Rattle.float.specs.Constants.{nought}
 use Rattle.vectors.specs.Refusal.{number, Answer, refused, given}
 use Rattle.vectors.specs.Vector.{at}
-use Rattle.offer.specs.State.{begin, moved}
+use Rattle.offer.specs.State.{Outcome, begin, moved}
 use Rattle.offer.specs.declared.state.State.{State}
-use Rattle.offer.specs.declared.state.Outcome.{Outcome}
-use Rattle.offer.specs.declared.state.Outcome.TheVariants.{Refused, Proposed, Accepted, Rejected, Taken, Done}
+use Rattle.offer.specs.declared.state.Said.TheVariants.{Proposed, Accepted, Rejected, Taken, Done}
+use Rattle.offer.specs.Session.{Kind, start}
+use Rattle.offer.specs.declared.session.Session.{Session}
 use Rattle.codec.specs.Codec.{phase_of, turn_of}
 use Rattle.codec.specs.declared.Wholes.{Wholes}
 
@@ -28,7 +29,18 @@ wholes_in phase_known words = record {
 }
 
 abbrev pub state_in : (phase count : ℕ) → (numbers : List Float) → State
-state_in phase count numbers = moved (begin (at numbers 1) (at numbers 2)) (at numbers 1) (at numbers 2) (phase_of (phase, at numbers 3, at numbers 4)) count
+state_in phase count numbers = moved (begin (at numbers 1) (at numbers 2)) (at numbers 1) (at numbers 2) (phase_of (record { number = phase; promise = at numbers 3; norm = at numbers 4 })) count
+
+-- by how a kind's settings stand in words and numbers, and the last phase that it comes to
+module _ {S : Type 0} (settings_of : Wholes → (epsilon : Float) → (own : List Float) → S) (last : ℕ) where
+  abbrev pub session_at : (phase : ℕ) → (words : List ℕ) → (numbers own : List Float) → Session S
+  session_at phase words numbers own = record {
+    settings = settings_of (wholes_in (leb phase last) words) (at numbers 0) own;
+    state = state_in phase (word words 7) numbers;
+  }
+
+  abbrev pub session_in : (words : List ℕ) → (numbers own : List Float) → Session S
+  session_in words numbers own = session_at (word words 6) words numbers own
 
 -- ---- into lists
 
@@ -45,16 +57,16 @@ told number words numbers = record { number = number; words = words; numbers = n
 abbrev pub written : (words : List ℕ) → (numbers : List Float) → State → (said passes : ℕ) → (ratio : Float) → Told
 written words numbers state said passes ratio =
     let turn = turn_of state.phase in
-    told 0 (word words 0 ∷ word words 1 ∷ word words 2 ∷ word words 3 ∷ word words 4 ∷ word words 5 ∷ turn.0 ∷ state.count ∷ said ∷ passes ∷ []) (at numbers 0 ∷ state.radius ∷ state.cost ∷ turn.1 ∷ turn.2 ∷ ratio ∷ [])
+    told 0 (word words 0 ∷ word words 1 ∷ word words 2 ∷ word words 3 ∷ word words 4 ∷ word words 5 ∷ turn.number ∷ state.count ∷ said ∷ passes ∷ []) (at numbers 0 ∷ state.radius ∷ state.cost ∷ turn.promise ∷ turn.norm ∷ ratio ∷ [])
 
 -- a refusal writes nothing
 abbrev pub kept : (words : List ℕ) → (numbers : List Float) → State → Outcome → Told
-kept words numbers state (Refused r) = told (number r) words numbers
-kept words numbers state (Proposed passes) = written words numbers state 1 passes nought
-kept words numbers state (Accepted ratio) = written words numbers state 2 0 ratio
-kept words numbers state (Rejected ratio) = written words numbers state 3 0 ratio
-kept words numbers state Taken = written words numbers state 4 0 nought
-kept words numbers state Done = written words numbers state 5 0 nought
+kept words numbers state (Err r) = told (number r) words numbers
+kept words numbers state (Ok (Proposed passes)) = written words numbers state 1 passes nought
+kept words numbers state (Ok (Accepted ratio)) = written words numbers state 2 0 ratio
+kept words numbers state (Ok (Rejected ratio)) = written words numbers state 3 0 ratio
+kept words numbers state (Ok Taken) = written words numbers state 4 0 nought
+kept words numbers state (Ok Done) = written words numbers state 5 0 nought
 
 -- ---- the calls, of either kind
 
@@ -62,6 +74,10 @@ kept words numbers state Done = written words numbers state 5 0 nought
 abbrev pub began : {Session : Type 0} → (words : List ℕ) → (numbers : List Float) → (Session → State) → Answer Session → Told
 began words numbers state_of (refused r) = told (number r) words numbers
 began words numbers state_of (given s) = written words numbers (state_of s) 0 0 nought
+
+-- a start looks at no phase
+abbrev pub starts : {S : Type 0} → Kind S → (settings_of : Wholes → Float → List Float → S) → (last : ℕ) → (words : List ℕ) → (numbers own : List Float) → Told
+starts kind settings_of last words numbers own = began words numbers (λ (s : Session _). s.state) (start kind (session_at settings_of last 0 words numbers own).settings (at numbers 2))
 
 -- a call on a session that stands in lists: what the call by value returns, `Call` holds of it, is kept in them
 pub record Driven {Session After : Type 0} (session : Session) (kept : After → Told) (Call : Session → After → Type 0) (t : Told) : Type 0 where

@@ -1,19 +1,15 @@
 -- An `SR1TrustRegion` session in lists: what they stand for, and what a call leaves in them. Definitions only.
 -- Words and numbers are those of Lists.antt. Settings: radius, eta, factor, tol_grad.
-use Rattle.std.specs.Prelude.{List, ℕ, leb, Float}
+use Rattle.std.specs.Prelude.{List, ℕ, Float}
 use Rattle.vectors.specs.Vector.{at}
-use Rattle.sr1.specs.Session.{start}
-use Rattle.sr1.specs.declared.session.Session.{Session}
-use Rattle.sr1.specs.declared.session.After.{After}
+use Rattle.sr1.specs.Session.{Session, start}
+use Rattle.sr1.specs.Calls.{After}
 use Rattle.codec.specs.Codec.{sr1_of}
 use Rattle.foreign_sessions.specs.Lists as Lists
-use Rattle.foreign_sessions.specs.Lists.{word, wholes_in, state_in, Told, kept, began}
+use Rattle.foreign_sessions.specs.Lists.{word, Told, kept, began}
 
 abbrev pub session_in : (phase : ℕ) → (words : List ℕ) → (numbers settings : List Float) → Session
-session_in phase words numbers settings = record {
-  settings = sr1_of (wholes_in (leb phase 1) words) (at numbers 0) settings;
-  state = state_in phase (word words 7) numbers;
-}
+session_in = Lists.session_at sr1_of 1
 
 -- a start looks at no phase
 abbrev pub starts : (words : List ℕ) → (numbers settings : List Float) → Told

@@ -13,48 +13,92 @@
 pub mod sr1_session;
 pub mod trust_region;
 
-ghost use Rattle.std.specs.Prelude.{◌≡◌, cond};
-ghost use Rattle.foreign_sessions.specs.Lists.{wholes_in, state_in, told, written, kept};
+ghost use Rattle.std.specs.Prelude.{◌≡◌, ℕ, List, Float};
+ghost use Rattle.codec.specs.declared.Wholes as codec_wholes;
+ghost use Rattle.foreign_sessions.specs.Lists as Lists;
+ghost use Rattle.foreign_sessions.specs.Lists.{told, written, kept, starts};
 
 use codec::{Turn, Wholes};
+use offer::session::{After, Kind, Session};
 use offer::state;
-use offer::state::{Outcome, State};
-use vectors::refusal;
+use offer::state::{Phase, Said, State};
 
 // ---- from lists
 
-// Words of another layout, or a number that is no phase's, make no session: the kernel reads as 0, which refusal 2 meets at its place.
-fn kernel_of(kernel: u64, known: bool) -> u64
-    ensures { result ≡ cond known kernel 0 }
-{
-    if known { kernel } else { 0 }
+// A kind of session whose own settings are N numbers.
+pub(crate) trait Listed<const N: usize>: Kind {
+    ghost settings_of: { codec_wholes.Wholes → Float → List Float → Self };
+
+    // The last phase that it comes to.
+    ghost LAST_PHASE: { ℕ };
+
+    const LAST_PHASE: u64;
+
+    fn settings_of(whole: Wholes, epsilon: f64, own: &[f64; N]) -> Self
+        ensures { result ≡ settings_of whole epsilon own.now };
 }
 
-pub(crate) fn wholes_in(phase_known: bool, words: &[u64; 10]) -> Wholes
-    ensures { result ≡ wholes_in phase_known words.now }
+// Words of another layout, or a number that is no phase's, make no session: the kernel reads as 0, which refusal 2 meets at its place.
+fn wholes_in(phase_known: bool, words: &[u64; 10]) -> Wholes
+    ensures { result ≡ Lists.wholes_in phase_known words.now }
 {
-    let known = refusal::both(words[0] == 10, phase_known);
+    let [layout, kernel, limit, allowance, dogleg, edition, ..] = *words;
+    let known = layout == 10 && phase_known;
     Wholes {
-        kernel: kernel_of(words[1], known),
-        limit: words[2],
-        allowance: words[3],
-        dogleg: words[4],
-        edition: words[5],
+        kernel: if known { kernel } else { 0 },
+        limit,
+        allowance,
+        dogleg,
+        edition,
     }
 }
 
-pub(crate) fn state_in(phase: u64, count: u64, numbers: &[f64; 6]) -> State
-    ensures { result ≡ state_in phase count numbers.now }
+fn state_in(phase: u64, count: u64, numbers: &[f64; 6]) -> State
+    ensures { result ≡ Lists.state_in phase count numbers.now }
 {
-    let phase = codec::phase_of(Turn(phase, numbers[3], numbers[4]));
-    let begun = state::begin(numbers[1], numbers[2]);
-    state::moved(begun, begun.radius, begun.cost, phase, count)
+    let [_, radius, cost, promise, norm, _] = *numbers;
+    let turn = Turn {
+        number: phase,
+        promise,
+        norm,
+    };
+    State {
+        phase: Phase::from(turn),
+        count,
+        ..state::begin(radius, cost)
+    }
+}
+
+fn session_at<S: Listed<N>, const N: usize>(
+    phase: u64,
+    words: &[u64; 10],
+    numbers: &[f64; 6],
+    own: &[f64; N],
+) -> Session<S>
+    ensures { result ≡ Lists.session_at S.settings_of S.LAST_PHASE phase words.now numbers.now own.now }
+{
+    let whole = wholes_in(phase <= S::LAST_PHASE, words);
+    Session {
+        settings: S::settings_of(whole, numbers[0], own),
+        state: state_in(phase, words[7], numbers),
+    }
+}
+
+// The session that the lists stand for.
+pub(crate) fn session_in<S: Listed<N>, const N: usize>(
+    words: &[u64; 10],
+    numbers: &[f64; 6],
+    own: &[f64; N],
+) -> Session<S>
+    ensures { result ≡ Lists.session_in S.settings_of S.LAST_PHASE words.now numbers.now own.now }
+{
+    session_at(words[6], words, numbers, own)
 }
 
 // ---- into lists
 
 // The first six words and epsilon stay: no call changes a setting. Where a call is taken epsilon is finite, so no NaN is copied.
-pub(crate) fn write(
+fn write(
     state: State,
     said: u64,
     passes: u64,
@@ -64,8 +108,7 @@ pub(crate) fn write(
 ) -> u64
     ensures { told result words.new numbers.new ≡ written words.old numbers.old state said passes ratio }
 {
-    let phase = state.phase;
-    let turn = codec::turn_of(phase);
+    let turn = Turn::from(state.phase);
     *words = [
         words[0],
         words[1],
@@ -73,30 +116,50 @@ pub(crate) fn write(
         words[3],
         words[4],
         words[5],
-        turn.0,
+        turn.number,
         state.count,
         said,
         passes,
     ];
-    *numbers = [numbers[0], state.radius, state.cost, turn.1, turn.2, ratio];
+    *numbers = [
+        numbers[0],
+        state.radius,
+        state.cost,
+        turn.promise,
+        turn.norm,
+        ratio,
+    ];
     0
 }
 
 // A refusal writes nothing: the lists keep their bits.
-pub(crate) fn keep(
-    state: State,
-    outcome: Outcome,
+pub(crate) fn keep<S: Copy>(after: After<S>, words: &mut [u64; 10], numbers: &mut [f64; 6]) -> u64
+    ensures { told result words.new numbers.new ≡ kept words.old numbers.old after.session.state after.outcome }
+{
+    let state = after.session.state;
+    match after.outcome {
+        Err(r) => r.number(),
+        Ok(Said::Proposed(passes)) => write(state, 1, passes, 0.0, words, numbers),
+        Ok(Said::Accepted(ratio)) => write(state, 2, 0, ratio, words, numbers),
+        Ok(Said::Rejected(ratio)) => write(state, 3, 0, ratio, words, numbers),
+        Ok(Said::Taken) => write(state, 4, 0, 0.0, words, numbers),
+        Ok(Said::Done) => write(state, 5, 0, 0.0, words, numbers),
+    }
+}
+
+// ---- a start, of either kind
+
+// Settings and cost are read; what else the lists held is not looked at.
+pub(crate) fn start<S: Listed<N>, const N: usize>(
     words: &mut [u64; 10],
     numbers: &mut [f64; 6],
+    own: &[f64; N],
 ) -> u64
-    ensures { told result words.new numbers.new ≡ kept words.old numbers.old state outcome }
+    ensures { told result words.new numbers.new ≡ starts S.kind S.settings_of S.LAST_PHASE words.old numbers.old own.now }
 {
-    match outcome {
-        Outcome::Refused(r) => refusal::number(r),
-        Outcome::Proposed(passes) => write(state, 1, passes, 0.0, words, numbers),
-        Outcome::Accepted(ratio) => write(state, 2, 0, ratio, words, numbers),
-        Outcome::Rejected(ratio) => write(state, 3, 0, ratio, words, numbers),
-        Outcome::Taken => write(state, 4, 0, 0.0, words, numbers),
-        Outcome::Done => write(state, 5, 0, 0.0, words, numbers),
+    let given: Session<S> = session_at(0, words, numbers, own);
+    match Session::start(given.settings, numbers[2]) {
+        Ok(s) => write(s.state, 0, 0, 0.0, words, numbers),
+        Err(r) => r.number(),
     }
 }

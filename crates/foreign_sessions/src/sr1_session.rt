@@ -4,24 +4,30 @@ ghost use Rattle.sr1.specs.Settings.{chosen};
 ghost use Rattle.sr1.specs.Session.{proposal, judgement};
 ghost use Rattle.sr1.specs.Calls.{Proposes, Judges};
 ghost use Rattle.foreign_sessions.specs.Lists.{told};
-ghost use Rattle.foreign_sessions.specs.Sr1.{session_in, starts, Driven};
+ghost use Rattle.codec.specs.Codec.{sr1_of};
+ghost use Rattle.foreign_sessions.specs.Sr1.{starts, Driven};
 
-use sr1::session::{Session, Start};
+use crate::Listed;
+use codec::Wholes;
+use sr1::settings::Settings;
 use sr1::sr1_trustregion;
 
-fn session_in(phase: u64, words: &[u64; 10], numbers: &[f64; 6], settings: &[f64; 4]) -> Session
-    ensures { result ≡ session_in phase words.now numbers.now settings.now }
-{
-    let whole = crate::wholes_in(phase <= 1, words);
-    Session {
-        settings: codec::sr1(whole, numbers[0], settings),
-        state: crate::state_in(phase, words[7], numbers),
+impl Listed<4> for Settings {
+    ghost settings_of = { sr1_of };
+
+    ghost LAST_PHASE = { 1 };
+
+    const LAST_PHASE: u64 = 1;
+
+    fn settings_of(whole: Wholes, epsilon: f64, own: &[f64; 4]) -> Self {
+        whole.sr1(epsilon, own)
     }
 }
 
 // ---- the calls
 
 // Settings and cost are read; what else the lists held is not looked at.
+#[tactic(auto, unfolding(sr1::specs::Session::start))]
 #[unsafe(no_mangle)]
 pub extern "C" fn mboyaxin_sr1_start(
     words: &mut [u64; 10],
@@ -30,13 +36,10 @@ pub extern "C" fn mboyaxin_sr1_start(
 ) -> u64
     ensures { told result words.new numbers.new ≡ starts words.old numbers.old settings.now }
 {
-    let given = session_in(0, words, numbers, settings);
-    match sr1_trustregion::start(given.settings, numbers[2]) {
-        Start::Refused(r) => vectors::refusal::number(r),
-        Start::Started(s) => crate::write(s.state, 0, 0, 0.0, words, numbers),
-    }
+    crate::start::<Settings, 4>(words, numbers, settings)
 }
 
+#[tactic(auto, using(crate::proofs::Lists::drives))]
 #[unsafe(no_mangle)]
 pub extern "C" fn mboyaxin_sr1_propose(
     words: &mut [u64; 10],
@@ -54,12 +57,12 @@ pub extern "C" fn mboyaxin_sr1_propose(
         s step.old trial.old scratch.old after step.new trial.new scratch.new)
         (told result words.new numbers.new) }
 {
-    let s = session_in(words[6], words, numbers, settings);
+    let s = crate::session_in(words, numbers, settings);
     let after = sr1_trustregion::proposed(s, n, point, gradient, hessian, step, trial, scratch);
-    let outcome = after.outcome;
-    crate::keep(after.session.state, outcome, words, numbers)
+    crate::keep(after, words, numbers)
 }
 
+#[tactic(auto, using(crate::proofs::Lists::drives))]
 #[unsafe(no_mangle)]
 pub extern "C" fn mboyaxin_sr1_answer(
     words: &mut [u64; 10],
@@ -79,7 +82,7 @@ pub extern "C" fn mboyaxin_sr1_answer(
         s point.old gradient.old hessian.old scratch.old after point.new gradient.new hessian.new scratch.new)
         (told result words.new numbers.new) }
 {
-    let s = session_in(words[6], words, numbers, settings);
+    let s = crate::session_in(words, numbers, settings);
     let after = sr1_trustregion::judged(
         s,
         n,
@@ -92,6 +95,5 @@ pub extern "C" fn mboyaxin_sr1_answer(
         hessian,
         scratch,
     );
-    let outcome = after.outcome;
-    crate::keep(after.session.state, outcome, words, numbers)
+    crate::keep(after, words, numbers)
 }

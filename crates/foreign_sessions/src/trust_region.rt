@@ -4,24 +4,30 @@ ghost use Rattle.trustregion.specs.Settings.{chosen};
 ghost use Rattle.trustregion.specs.Session.{proposal, judgement, renewal};
 ghost use Rattle.trustregion.specs.Calls.{Proposes, Judges, Renews};
 ghost use Rattle.foreign_sessions.specs.Lists.{told};
-ghost use Rattle.foreign_sessions.specs.TrustRegion.{session_in, starts, Driven};
+ghost use Rattle.codec.specs.Codec.{trust_region_of};
+ghost use Rattle.foreign_sessions.specs.TrustRegion.{starts, Driven};
 
-use trustregion::session::{Session, Start};
+use crate::Listed;
+use codec::Wholes;
+use trustregion::settings::Settings;
 use trustregion::trustregion_method;
 
-fn session_in(phase: u64, words: &[u64; 10], numbers: &[f64; 6], settings: &[f64; 3]) -> Session
-    ensures { result ≡ session_in phase words.now numbers.now settings.now }
-{
-    let whole = crate::wholes_in(phase <= 2, words);
-    Session {
-        settings: codec::trust_region(whole, numbers[0], settings),
-        state: crate::state_in(phase, words[7], numbers),
+impl Listed<3> for Settings {
+    ghost settings_of = { trust_region_of };
+
+    ghost LAST_PHASE = { 2 };
+
+    const LAST_PHASE: u64 = 2;
+
+    fn settings_of(whole: Wholes, epsilon: f64, own: &[f64; 3]) -> Self {
+        whole.trust_region(epsilon, own)
     }
 }
 
 // ---- the calls
 
 // Settings and cost are read; what else the lists held is not looked at.
+#[tactic(auto, unfolding(trustregion::specs::Session::start))]
 #[unsafe(no_mangle)]
 pub extern "C" fn mboyaxin_trustregion_start(
     words: &mut [u64; 10],
@@ -30,13 +36,10 @@ pub extern "C" fn mboyaxin_trustregion_start(
 ) -> u64
     ensures { told result words.new numbers.new ≡ starts words.old numbers.old settings.now }
 {
-    let given = session_in(0, words, numbers, settings);
-    match trustregion_method::start(given.settings, numbers[2]) {
-        Start::Refused(r) => vectors::refusal::number(r),
-        Start::Started(s) => crate::write(s.state, 0, 0, 0.0, words, numbers),
-    }
+    crate::start::<Settings, 3>(words, numbers, settings)
 }
 
+#[tactic(auto, using(crate::proofs::Lists::drives))]
 #[unsafe(no_mangle)]
 pub extern "C" fn mboyaxin_trustregion_propose(
     words: &mut [u64; 10],
@@ -54,12 +57,12 @@ pub extern "C" fn mboyaxin_trustregion_propose(
         s step.old trial.old scratch.old after step.new trial.new scratch.new)
         (told result words.new numbers.new) }
 {
-    let s = session_in(words[6], words, numbers, settings);
+    let s = crate::session_in(words, numbers, settings);
     let after = trustregion_method::proposed(s, n, point, gradient, hessian, step, trial, scratch);
-    let outcome = after.outcome;
-    crate::keep(after.session.state, outcome, words, numbers)
+    crate::keep(after, words, numbers)
 }
 
+#[tactic(auto, using(crate::proofs::Lists::drives))]
 #[unsafe(no_mangle)]
 pub extern "C" fn mboyaxin_trustregion_answer_cost(
     words: &mut [u64; 10],
@@ -73,12 +76,12 @@ pub extern "C" fn mboyaxin_trustregion_answer_cost(
     ensures { Driven words.old numbers.old settings.now (λ s after. Judges (judgement s n cost point.old trial.now) s point.old after point.new)
         (told result words.new numbers.new) }
 {
-    let s = session_in(words[6], words, numbers, settings);
+    let s = crate::session_in(words, numbers, settings);
     let after = trustregion_method::judged(s, n, cost, point, trial);
-    let outcome = after.outcome;
-    crate::keep(after.session.state, outcome, words, numbers)
+    crate::keep(after, words, numbers)
 }
 
+#[tactic(auto, using(crate::proofs::Lists::drives))]
 #[unsafe(no_mangle)]
 pub extern "C" fn mboyaxin_trustregion_answer_derivatives(
     words: &mut [u64; 10],
@@ -94,8 +97,7 @@ pub extern "C" fn mboyaxin_trustregion_answer_derivatives(
         s gradient.old hessian.old after gradient.new hessian.new)
         (told result words.new numbers.new) }
 {
-    let s = session_in(words[6], words, numbers, settings);
+    let s = crate::session_in(words, numbers, settings);
     let after = trustregion_method::renewed(s, n, new_gradient, new_hessian, gradient, hessian);
-    let outcome = after.outcome;
-    crate::keep(after.session.state, outcome, words, numbers)
+    crate::keep(after, words, numbers)
 }
