@@ -7,6 +7,7 @@ ghost use Rattle.stream.specs.Input.{held as Input·held};
 pub const STDIN_FILENO: i32 = 0;
 
 // A lent room that is filled with what comes, whose bytes from `at` up to `end` are still to be read.
+#[derive(Drop)]
 pub struct Input<'a> {
     pub room: &'a mut [u8],
     pub at: usize,

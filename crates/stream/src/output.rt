@@ -9,6 +9,7 @@ ghost use Rattle.stream.specs.Output.{Top, Left, Put, PutWhole};
 const STDOUT_FILENO: i32 = 1;
 
 // Lent bytes, and how many of them are written that have not left yet.
+#[derive(Drop)]
 pub struct Page<'a> {
     pub bytes: &'a mut [u8],
     pub at: usize,
