@@ -1,6 +1,6 @@
 -- Laws of the update of the Hessian: z, the test of every new entry, and the writing of them. Assumes nothing.
 use mathlib.Core.Path.{◌≡◌, refl, sym, ap, ◌∙◌}
-use mathlib.Core.Bool.{Bool, true, false, ◌&&◌, true≢false, false≢true}
+use mathlib.Core.Bool.{Bool, true, false, ◌&&◌}
 use mathlib.Core.List.{List, [], ◌∷◌, ◌++◌}
 use mathlib.Core.Logic.{dite}
 use Prim.Native.Nat.{ℕ, zero, suc, ◌+◌, ◌*◌, ◌<◌, ◌≤◌}
@@ -18,8 +18,9 @@ use Rattle.vectors.specs.Vector.{at, tab, flat, dot, times_at, minus, all_finite
 use Rattle.vectors.specs.Slots.{slot, Puts}
 use Rattle.vectors.specs.declared.refusal.Refusal.{Refusal}
 use Rattle.vectors.specs.declared.refusal.Refusal.TheVariants.{Range}
+use Rattle.vectors.proofs.Sizes.{and_assoc, and_true}
 use Rattle.vectors.proofs.Vectors.{at_tab, tab_same, at_times}
-use Rattle.kernels.proofs.Rows.{Laying, laying_none, laying_more₀, laid_flat}
+use Rattle.kernels.proofs.Rows.{Laying, laying_more₀, laid_flat}
 use Rattle.sr1.specs.Session.{residual, ported_rule, book_rule, updates, gained_row, gained, updated_by, updated}
 use Rattle.sr1.specs.Calls.{Updates}
 use Rattle.sr1.specs.declared.settings.Settings.{Settings}
@@ -34,39 +35,21 @@ unfolding residual minus
 residual_is n new_gradient gradient hessian step =
     tab_same n _ _ (λ i h. rw (at_tab n (λ j. at new_gradient j ⊖ at gradient j) i h, at_times n hessian step i h))
 
--- ---- a test that has held below j
-
-abbrev pub Below : (ℕ → Bool) → ℕ → Type 0
-Below test j = (k : ℕ) → k < j → test k ≡ true
-
-pub below_none : (test : ℕ → Bool) → Below test 0
-below_none test k h = absurd (omega (arith, h))
-
-pub below_more : (test : ℕ → Bool) (j : ℕ) → Below test j → test j ≡ true → Below test (j + 1)
-below_more test j held here k h = dite (dec_lt k j) (λ low. held k low) (λ high. let same : k ≡ j = omega (arith, h, high) in rw same here)
-
--- `all` says whether it has, and where it has not, whether it holds throughout is false too
-abbrev pub Seen : (ℕ → Bool) → (throughout : Bool) → ℕ → (all : Bool) → Type 0
-Seen test throughout j all = (all ≡ true → Below test j) × (all ≡ false → throughout ≡ false)
-
-pub seen_none : (test : ℕ → Bool) (throughout : Bool) → Seen test throughout 0 true
-seen_none test throughout = (λ e. below_none test, λ e. absurd (true≢false e))
-
-pub seen_more : (test : ℕ → Bool) (throughout : Bool) (j : ℕ) (all here next : Bool) → Seen test throughout j all → here ≡ test j → (test j ≡ false → throughout ≡ false) → next ≡ (all && here)
-    → Seen test throughout (j + 1) next
-seen_more test throughout j true here next s e bad f = (λ t. below_more test j (s.0 refl) (sym e ∙ sym f ∙ t), λ t. bad (sym e ∙ sym f ∙ t))
-seen_more test throughout j false here next s e bad f = (λ t. absurd (false≢true (sym f ∙ t)), λ t. s.1 refl)
-
 -- ---- the entries of a row, and the rows
 
 pub and_false : (b : Bool) → (b && false) ≡ false
 and_false true = refl
 and_false false = refl
 
-pub row_good : (n : ℕ) (f : ℕ → Float) → Below (λ k. finite (f k)) n → all_finite (tab n f) ≡ true
+-- of so many entries, and of one more
+pub seen_none : (f : ℕ → Float) → true ≡ all_finite (tab 0 f)
 unfolding tab all_finite
-row_good zero f h = refl
-row_good (suc n) f h = rw (h 0 (omega arith), row_good n (λ k. f (suc k)) (λ k l. h (suc k) (omega (arith, l))))
+seen_none f = refl
+
+pub seen_more : (j : ℕ) (f : ℕ → Float) → all_finite (tab (suc j) f) ≡ (all_finite (tab j f) && finite (f j))
+unfolding tab all_finite
+seen_more zero f = and_true (finite (f 0))
+seen_more (suc j) f = rw (seen_more j (λ k. f (suc k))) (sym (and_assoc (finite (f 0)) (all_finite (tab j (λ k. f (suc k)))) (finite (f (suc j)))))
 
 pub row_bad : (n : ℕ) (f : ℕ → Float) (k : ℕ) → k < n → finite (f k) ≡ false → all_finite (tab n f) ≡ false
 unfolding tab all_finite
@@ -82,10 +65,13 @@ end_to_end (x ∷ a) b = go (finite x) (end_to_end a b) where
   go true e = e
   go false e = refl
 
-pub rows_good : (n : ℕ) (f : ℕ → List Float) → Below (λ k. all_finite (f k)) n → all_finite (flat n f) ≡ true
+pub rows_none : (f : ℕ → List Float) → all_finite (flat 0 f) ≡ true
 unfolding flat all_finite
-rows_good zero f h = refl
-rows_good (suc n) f h = end_to_end (flat n f) (f n) ∙ rw (rows_good n f (λ k l. h k (omega (arith, l))), h n (omega arith))
+rows_none f = refl
+
+pub rows_more : (i : ℕ) (f : ℕ → List Float) → all_finite (flat i f) ≡ true → all_finite (f i) ≡ true → all_finite (flat (suc i) f) ≡ true
+unfolding flat
+rows_more i f e h = end_to_end (flat i f) (f i) ∙ rw (e, h)
 
 pub rows_bad : (n : ℕ) (f : ℕ → List Float) (k : ℕ) → k < n → all_finite (f k) ≡ false → all_finite (flat n f) ≡ false
 unfolding flat
@@ -103,9 +89,6 @@ pub record Gaining (n : ℕ) (old z : List Float) (share : Float) (w : List Floa
   pub upto : i ≤ n
   pub laid : Laying old n 0 (gained_row n old z share) w i
   pub rest : (k : ℕ) → i ≤ k → slot w n k ≡ slot old n k
-
-pub gaining_none : (n : ℕ) (old z : List Float) (share : Float) → Gaining n old z share old 0
-gaining_none n old z share = record { upto = omega arith; laid = laying_none old n 0 (gained_row n old z share); rest = λ k h. refl }
 
 pub gaining_more : {n : ℕ} {old z : List Float} {share : Float} {w : List Float} {i : ℕ} → Gaining n old z share w i → i < n
     → (w' : List Float) → Puts w n i (gained_row n w z share i) w' → length w' ≡ length w → Gaining n old z share w' (i + 1)

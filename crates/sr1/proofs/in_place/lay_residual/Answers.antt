@@ -3,12 +3,9 @@ use mathlib.Core.Path.{◌≡◌, ◌∙◌}
 use borrow.Author.Rules.{rules}
 use Rattle.vectors.specs.Vector.{row}
 use Rattle.vectors.proofs.Sizes.{row_good}
-use Rattle.vectors.proofs.Slots.{writing_none, filling_more, writing_done}
+use Rattle.vectors.proofs.Slots.{filling_more, writing_done}
 use Rattle.sr1.proofs.Hessians.{residual_is}
 use Rattle.sr1.proofs.in_place.lay_residual.Goals as goal
-
-pub loop-i-init : goal.loop-i-init
-loop-i-init c = writing_none (search rules)
 
 pub loop-i-preserved : goal.loop-i-preserved
 loop-i-preserved c =

@@ -1,8 +1,7 @@
-use Rattle.float.specs.Numbers.{finite}
-use Rattle.vectors.specs.Vector.{all_finite}
-use Rattle.sr1.specs.Session.{gained_at, gained_row}
-use Rattle.sr1.proofs.Hessians.{Seen}
+use mathlib.Core.Path.{◌≡◌}
+use Rattle.vectors.specs.Vector.{tab, all_finite}
+use Rattle.sr1.specs.Session.{gained_at}
 use Rattle.sr1.proofs.in_place.row_finite.Given as goal
 
 abbrev pub invariant-loop-j : goal.invariant-loop-j
-invariant-loop-j l = Seen (λ k. finite (gained_at l.n l.hessian l.z l.share l.i k)) (all_finite (gained_row l.n l.hessian l.z l.share l.i)) l.j l.all
+invariant-loop-j l = l.all ≡ all_finite (tab l.j (gained_at l.n l.hessian l.z l.share l.i))

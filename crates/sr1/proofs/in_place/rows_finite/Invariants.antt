@@ -1,7 +1,8 @@
-use Rattle.vectors.specs.Vector.{all_finite}
+use mathlib.Core.Bool.{true}
+use mathlib.Core.Path.{◌≡◌}
+use Rattle.vectors.specs.Vector.{flat, all_finite}
 use Rattle.sr1.specs.Session.{gained_row}
-use Rattle.sr1.proofs.Hessians.{Below}
 use Rattle.sr1.proofs.in_place.rows_finite.Given as goal
 
 abbrev pub invariant-loop-i : goal.invariant-loop-i
-invariant-loop-i l = Below (λ k. all_finite (gained_row l.n l.hessian l.z l.share k)) l.i
+invariant-loop-i l = all_finite (flat l.i (gained_row l.n l.hessian l.z l.share)) ≡ true
