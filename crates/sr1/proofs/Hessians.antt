@@ -20,7 +20,7 @@ use Rattle.vectors.specs.declared.refusal.Refusal.{Refusal}
 use Rattle.vectors.specs.declared.refusal.Refusal.TheVariants.{Range}
 use Rattle.vectors.proofs.Sizes.{and_assoc, and_true}
 use Rattle.vectors.proofs.Vectors.{at_tab, tab_same, at_times}
-use Rattle.kernels.proofs.Rows.{Laying, laying_more₀, laid_flat}
+use Rattle.kernels.proofs.Rows.{Laid, laid_more₀, laid_flat}
 use Rattle.sr1.specs.Session.{residual, ported_rule, book_rule, updates, gained_row, gained, updated_by, updated}
 use Rattle.sr1.specs.Calls.{Updates}
 use Rattle.sr1.specs.declared.settings.Settings.{Settings}
@@ -87,7 +87,8 @@ rows_bad (suc n) f k l e =
 -- the rows above i are the new ones, and from i on the old ones
 pub record Gaining (n : ℕ) (old z : List Float) (share : Float) (w : List Float) (i : ℕ) : Type 0 where
   pub upto : i ≤ n
-  pub laid : Laying old n 0 (gained_row n old z share) w i
+  pub long : length w ≡ length old
+  pub laid : Laid n 0 (gained_row n old z share) w i
   pub rest : (k : ℕ) → i ≤ k → slot w n k ≡ slot old n k
 
 pub gaining_more : {n : ℕ} {old z : List Float} {share : Float} {w : List Float} {i : ℕ} → Gaining n old z share w i → i < n
@@ -95,13 +96,14 @@ pub gaining_more : {n : ℕ} {old z : List Float} {share : Float} {w : List Floa
 unfolding gained_row
 gaining_more {n} {old} {z} {share} {w} {i} p h w' a l = record {
   upto = omega arith;
-  laid = laying_more₀ p.laid w' (gained_row n w z share i) a (ap (λ (r : List Float). tab n (λ j. at r j ⊕ at z i ⊗ at z j ⊗ share)) (p.rest i (omega arith))) l;
+  long = l ∙ p.long;
+  laid = laid_more₀ n _ w i p.laid w' (gained_row n w z share i) a (ap (λ (r : List Float). tab n (λ j. at r j ⊕ at z i ⊗ at z j ⊗ share)) (p.rest i (omega arith)));
   rest = λ k b. a k ∙ rw (ne_eqb k i (λ e. omega (arith, b, e))) (p.rest k (omega (arith, b)));
 }
 
 pub gaining_done : {n : ℕ} {old z : List Float} {share : Float} {w : List Float} {i : ℕ} → Gaining n old z share w i → n ≤ i → length old ≡ n * n → w ≡ gained n old z share
 unfolding gained
-gaining_done {n} {old} {z} {share} {w} {i} p h e = let all : i ≡ n = omega arith in laid_flat (rw all at p.laid) e
+gaining_done {n} {old} {z} {share} {w} {i} p h e = let all : i ≡ n = omega arith in laid_flat w n (gained_row n old z share) (rw all at p.laid) (p.long ∙ e)
 
 -- ---- the test, by the edition; nothing else looks inside it
 
