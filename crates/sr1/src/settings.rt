@@ -64,19 +64,17 @@ impl Settings {
     }
 
     // At most so many hidden trials in a row. (Why TrustRegion's settings have their own: there.)
-    pub fn with_allowance(mut self, allowance: u64) -> Self
+    pub fn with_allowance(self, allowance: u64) -> Self
         ensures { result ≡ allowing allowance self }
     {
-        self.allowance = allowance;
-        self
+        Self { allowance, ..self }
     }
 
     // By this edition of the rule.
-    pub fn with_edition(mut self, edition: u64) -> Self
+    pub fn with_edition(self, edition: u64) -> Self
         ensures { result ≡ updating edition self }
     {
-        self.edition = edition;
-        self
+        Self { edition, ..self }
     }
 }
 

@@ -50,11 +50,10 @@ impl Settings {
 
     // At most so many hidden trials in a row. SR1's settings have a function as this of their own: one for both, in the trait `Kind`,
     // would ask each for a setter besides.
-    pub fn with_allowance(mut self, allowance: u64) -> Self
+    pub fn with_allowance(self, allowance: u64) -> Self
         ensures { result ≡ allowing allowance self }
     {
-        self.allowance = allowance;
-        self
+        Self { allowance, ..self }
     }
 }
 
