@@ -10,33 +10,21 @@
 // from outside has the bits that the sessions gave it.
 #![tactic(auto)]
 
+mod listed;
 pub mod sr1_session;
 pub mod trust_region;
 
-ghost use Rattle.std.specs.Prelude.{◌≡◌, ℕ, List, Float};
-ghost use Rattle.codec.specs.declared.Wholes as codec_wholes;
+ghost use Rattle.std.specs.Prelude.{◌≡◌};
 ghost use Rattle.foreign_sessions.specs.Lists as Lists;
 ghost use Rattle.foreign_sessions.specs.Lists.{told, written, kept, starts};
 
 use codec::{Turn, Wholes};
-use offer::session::{After, Kind, Session};
+use listed::Listed;
+use offer::session::{After, Session};
 use offer::state;
 use offer::state::{Phase, Said, State};
 
 // ---- from lists
-
-// A kind of session whose own settings are N numbers.
-pub(crate) trait Listed<const N: usize>: Kind {
-    ghost settings_of: { codec_wholes.Wholes → Float → List Float → Self };
-
-    // The last phase that it comes to.
-    ghost LAST_PHASE: { ℕ };
-
-    const LAST_PHASE: u64;
-
-    fn settings_of(whole: Wholes, epsilon: f64, own: &[f64; N]) -> Self
-        ensures { result ≡ settings_of whole epsilon own.now };
-}
 
 // Words of another layout, or a number that is no phase's, make no session: the kernel reads as 0, which refusal 2 meets at its place.
 fn wholes_in(phase_known: bool, words: &[u64; 10]) -> Wholes

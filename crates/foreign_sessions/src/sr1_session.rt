@@ -7,7 +7,7 @@ ghost use Rattle.foreign_sessions.specs.Lists.{told};
 ghost use Rattle.codec.specs.Codec.{sr1_of};
 ghost use Rattle.foreign_sessions.specs.Sr1.{starts, Driven};
 
-use crate::Listed;
+use crate::listed::Listed;
 use codec::Wholes;
 use sr1::settings::Settings;
 use sr1::sr1_trustregion;

@@ -7,7 +7,7 @@ ghost use Rattle.foreign_sessions.specs.Lists.{told};
 ghost use Rattle.codec.specs.Codec.{trust_region_of};
 ghost use Rattle.foreign_sessions.specs.TrustRegion.{starts, Driven};
 
-use crate::Listed;
+use crate::listed::Listed;
 use codec::Wholes;
 use trustregion::settings::Settings;
 use trustregion::trustregion_method;
