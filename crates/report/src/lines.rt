@@ -6,12 +6,11 @@ ghost use Rattle.report.specs.Lines as Lines;
 
 use event::Event;
 use offer::state::{Phase, State};
-use stream::Output;
+use stream::Page;
 
 // The lists are those that the session was lent, as they are afterwards. Of a change nothing is written.
 pub fn put(
-    page: &mut [u8],
-    output: Output,
+    page: &mut Page<'_>,
     event: Event,
     tells_more: bool,
     point: &[f64],
@@ -19,113 +18,105 @@ pub fn put(
     hessian: &[f64],
     step: &[f64],
     trial: &[f64],
-) -> Output
-    ensures { Puts (Lines.lines event tells_more point.now gradient.now hessian.now step.now trial.now) page.old output.at page.new result.at }
+)
+    ensures { Puts (Lines.lines event tells_more point.now gradient.now hessian.now step.now trial.now) page.old page.new }
 {
     match event {
-        Event::Started(_) => stream::put_text(page, output, b"start\n"),
-        Event::NotStarted(r) => stream::put_refused(page, output, vectors::refusal::number(r)),
-        Event::Refused(r) => stream::put_refused(page, output, vectors::refusal::number(r)),
-        Event::Done => stream::put_text(page, output, b"done\n"),
-        Event::Proposed(passes) => proposed(page, output, passes, step, trial),
-        Event::Judged(accepted, _, ratio, radius) => judged(page, output, accepted, ratio, radius),
-        Event::Taken => stream::put_text(page, output, b"taken\n"),
-        Event::Changed => output,
-        Event::Ended(state) => ended(page, output, state, tells_more, point, gradient, hessian),
-        Event::Bad => stream::put_text(page, output, b"bad input\n"),
+        Event::Started(_) => page.put_text(b"start\n"),
+        Event::NotStarted(r) => page.put_refused(r.number()),
+        Event::Refused(r) => page.put_refused(r.number()),
+        Event::Done => page.put_text(b"done\n"),
+        Event::Proposed(passes) => proposed(page, passes, step, trial),
+        Event::Judged {
+            accepted,
+            ratio,
+            radius,
+            ..
+        } => judged(page, accepted, ratio, radius),
+        Event::Taken => page.put_text(b"taken\n"),
+        Event::Changed => {}
+        Event::Ended(state) => ended(page, state, tells_more, point, gradient, hessian),
+        Event::Bad => page.put_text(b"bad input\n"),
     }
 }
 
-fn proposed(page: &mut [u8], output: Output, passes: u64, step: &[f64], trial: &[f64]) -> Output
-    ensures { Puts (proposed_lines passes step.now trial.now) page.old output.at page.new result.at }
+fn proposed(page: &mut Page<'_>, passes: u64, step: &[f64], trial: &[f64])
+    ensures { Puts (proposed_lines passes step.now trial.now) page.old page.new }
 {
-    let said = stream::put_text(page, output, b"proposed ");
-    let put = stream::put_whole(page, said, passes);
-    let first = stream::put_list(page, put, b"\nstep", step);
-    let second = stream::put_list(page, first, b"\ntrial", trial);
-    stream::put_line_end(page, second)
+    page.put_text(b"proposed ");
+    page.put_whole(passes);
+    page.put_list(b"\nstep", step);
+    page.put_list(b"\ntrial", trial);
+    page.put_line_end();
 }
 
-fn judged(page: &mut [u8], output: Output, accepted: bool, ratio: f64, radius: f64) -> Output
-    ensures { Puts (judged_line accepted ratio radius) page.old output.at page.new result.at }
+fn judged(page: &mut Page<'_>, accepted: bool, ratio: f64, radius: f64)
+    ensures { Puts (judged_line accepted ratio radius) page.old page.new }
 {
-    let word = verdict(accepted);
-    let first = stream::put_named(page, output, &word, ratio);
-    let second = stream::put_named(page, first, b" radius ", radius);
-    stream::put_line_end(page, second)
+    page.put_named(verdict(accepted), ratio);
+    page.put_named(b" radius ", radius);
+    page.put_line_end();
 }
 
-fn verdict(accepted: bool) -> [u8; 9]
-    ensures { result ≡ Lines.verdict accepted }
+fn verdict(accepted: bool) -> &'static [u8]
+    ensures { result.now ≡ Lines.verdict accepted }
 {
-    if accepted {
-        return *b"accepted ";
-    }
-    *b"rejected "
+    if accepted { b"accepted " } else { b"rejected " }
 }
 
 // Where the session stands.
 fn ended(
-    page: &mut [u8],
-    output: Output,
+    page: &mut Page<'_>,
     state: State,
     tells_more: bool,
     point: &[f64],
     gradient: &[f64],
     hessian: &[f64],
-) -> Output
-    ensures { Puts (end_lines state tells_more point.now gradient.now hessian.now) page.old output.at page.new result.at }
+)
+    ensures { Puts (end_lines state tells_more point.now gradient.now hessian.now) page.old page.new }
 {
-    let stands = standing(page, output, state);
-    let held = lists(page, stands, point, gradient, hessian);
-    let end = stream::put_line_end(page, held);
-    counted(page, end, tells_more, state.count)
+    standing(page, state);
+    lists(page, point, gradient, hessian);
+    page.put_line_end();
+    counted(page, tells_more, state.count);
 }
 
-fn standing(page: &mut [u8], output: Output, state: State) -> Output
-    ensures { Puts (state_lines state) page.old output.at page.new result.at }
+fn standing(page: &mut Page<'_>, state: State)
+    ensures { Puts (state_lines state) page.old page.new }
 {
-    let due = state.phase;
-    let phase = phase(page, output, due);
-    let radius = stream::put_named(page, phase, b"\nradius ", state.radius);
-    stream::put_named(page, radius, b"\ncost ", state.cost)
+    phase(page, state.phase);
+    page.put_named(b"\nradius ", state.radius);
+    page.put_named(b"\ncost ", state.cost);
 }
 
-fn phase(page: &mut [u8], output: Output, phase: Phase) -> Output
-    ensures { Puts (phase_line phase) page.old output.at page.new result.at }
+fn phase(page: &mut Page<'_>, phase: Phase)
+    ensures { Puts (phase_line phase) page.old page.new }
 {
     match phase {
-        Phase::Ready => stream::put_text(page, output, b"end ready"),
+        Phase::Ready => page.put_text(b"end ready"),
         Phase::AwaitingCost(promise, norm) => {
-            let first = stream::put_named(page, output, b"end cost ", promise);
-            stream::put_named(page, first, b" ", norm)
+            page.put_named(b"end cost ", promise);
+            page.put_named(b" ", norm);
         }
-        Phase::AwaitingDerivatives => stream::put_text(page, output, b"end derivatives"),
+        Phase::AwaitingDerivatives => page.put_text(b"end derivatives"),
     }
 }
 
-fn lists(
-    page: &mut [u8],
-    output: Output,
-    point: &[f64],
-    gradient: &[f64],
-    hessian: &[f64],
-) -> Output
-    ensures { Puts (list_lines point.now gradient.now hessian.now) page.old output.at page.new result.at }
+fn lists(page: &mut Page<'_>, point: &[f64], gradient: &[f64], hessian: &[f64])
+    ensures { Puts (list_lines point.now gradient.now hessian.now) page.old page.new }
 {
-    let first = stream::put_list(page, output, b"\npoint", point);
-    let second = stream::put_list(page, first, b"\ngradient", gradient);
-    stream::put_list(page, second, b"\nhessian", hessian)
+    page.put_list(b"\npoint", point);
+    page.put_list(b"\ngradient", gradient);
+    page.put_list(b"\nhessian", hessian);
 }
 
 // The count of hidden trials in a row, where the end tells it.
-fn counted(page: &mut [u8], output: Output, tells_more: bool, count: u64) -> Output
-    ensures { Puts (count_line tells_more count) page.old output.at page.new result.at }
+fn counted(page: &mut Page<'_>, tells_more: bool, count: u64)
+    ensures { Puts (count_line tells_more count) page.old page.new }
 {
     if tells_more {
-        let said = stream::put_text(page, output, b"count ");
-        let put = stream::put_whole(page, said, count);
-        return stream::put_line_end(page, put);
+        page.put_text(b"count ");
+        page.put_whole(count);
+        page.put_line_end();
     }
-    output
 }

@@ -4,5 +4,4 @@ use Rattle.stream.proofs.Pieces.{puts_one, puts_append}
 use Rattle.report.proofs.lines.proposed.Goals as goal
 
 pub returns : goal.returns
-returns c =
-    puts_append (puts_append (puts_append (one c.put_text-said.ensures (puts_one c.put_whole-put.ensures)) c.put_list-first.ensures) c.put_list-second.ensures) (puts_one c.put_line_end.ensures)
+returns c = puts_append (puts_append (puts_append (one c.put_text.ensures (puts_one c.put_whole.ensures)) c.put_list.ensures) c.put_list-2.ensures) (puts_one c.put_line_end.ensures)

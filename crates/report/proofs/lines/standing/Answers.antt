@@ -3,5 +3,4 @@ use Rattle.stream.proofs.Pieces.{puts_append}
 use Rattle.report.proofs.lines.standing.Goals as goal
 
 pub returns : goal.returns
-returns c =
-    puts_append (puts_append c.phase-phase.ensures c.put_named-radius.ensures) c.put_named.ensures
+returns c = puts_append (puts_append c.phase.ensures c.put_named.ensures) c.put_named-2.ensures

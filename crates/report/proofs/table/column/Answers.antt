@@ -5,6 +5,4 @@ use Rattle.report.proofs.Columns.{in_column}
 use Rattle.report.proofs.table.column.Goals as goal
 
 pub returns : goal.returns
-returns c =
-    let text = c.write.ensures.out_after ∙ in_column _ in
-    puts_one (rw text at c.put_text.ensures)
+returns c = puts_one (rw (c.write.ensures.out_after ∙ in_column c.args.x) at c.put_text.ensures)

@@ -3,15 +3,6 @@ use Rattle.stream.specs.Pieces.{none}
 use Rattle.stream.proofs.Pieces.{puts_one, puts_append}
 use Rattle.report.proofs.table.put.Goals as goal
 
-pub returns-in-Started : goal.returns-in-Started
-returns-in-Started c = rw c.in-Started.is c.started.ensures
-
-pub returns-in-NotStarted : goal.returns-in-NotStarted
-returns-in-NotStarted c = rw c.in-NotStarted.is c.refused.ensures
-
-pub returns-in-Refused : goal.returns-in-Refused
-returns-in-Refused c = rw c.in-Refused.is c.refused-in-Refused.ensures
-
 pub returns-in-Done : goal.returns-in-Done
 returns-in-Done c = rw c.in-Done.is (puts_one c.put_text.ensures)
 
@@ -19,7 +10,7 @@ pub returns-in-Proposed : goal.returns-in-Proposed
 returns-in-Proposed c = rw c.in-Proposed.is none
 
 pub returns-in-Judged : goal.returns-in-Judged
-returns-in-Judged c = rw c.in-Judged.is (puts_append c.trial-told.ensures c.verdict.ensures)
+returns-in-Judged c = rw c.in-Judged.is (puts_append c.trial.ensures c.verdict.ensures)
 
 pub returns-in-Taken : goal.returns-in-Taken
 returns-in-Taken c = rw c.in-Taken.is none
@@ -28,7 +19,7 @@ pub returns-in-Changed : goal.returns-in-Changed
 returns-in-Changed c = rw c.in-Changed.is (puts_one c.put_text-in-Changed.ensures)
 
 pub returns-in-Ended : goal.returns-in-Ended
-returns-in-Ended c = rw c.in-Ended.is (puts_append c.end-told.ensures c.numbers.ensures)
+returns-in-Ended c = rw c.in-Ended.is (puts_append c.end.ensures c.numbers.ensures)
 
 pub returns-in-Bad : goal.returns-in-Bad
 returns-in-Bad c = rw c.in-Bad.is (puts_one c.put_text-in-Bad.ensures)

@@ -4,5 +4,4 @@ use Rattle.stream.proofs.Pieces.{puts_one}
 use Rattle.report.proofs.table.refused.Goals as goal
 
 pub returns : goal.returns
-returns c =
-    one c.put_text-said.ensures (one (rw c.number.ensures at c.put_whole-put.ensures) (one c.put_text-closed.ensures (puts_one c.reason.ensures)))
+returns c = one c.put_text.ensures (one (rw c.number.ensures at c.put_whole.ensures) (one c.put_text-2.ensures (puts_one (rw c.reason.ensures at c.put_text-3.ensures))))
