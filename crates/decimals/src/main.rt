@@ -2,45 +2,31 @@
 // each in a line of its own. Bytes that make no whole word at the end are the line `bad input`.
 #![tactic(auto)]
 
-use stream::{Output, Word};
+use stream::{Input, Over, Page};
 
-fn line(page: &mut [u8], output: Output, bits: u64) -> Output {
-    let mut text = [0u8; 24];
+fn line(page: &mut Page<'_>, bits: u64) {
+    let mut text = [0; 24];
     let n = decimal::write(float::float_of(bits), &mut text);
-    let said = stream::put_text(page, output, &text[..n]);
-    stream::put_line_end(page, said)
+    page.put_text(&text[..n]);
+    page.put_line_end();
 }
 
-// Bytes at the end that make no word.
-fn bad(page: &mut [u8], output: Output) -> Output {
-    stream::put_text(page, output, b"bad input\n")
-}
-
-// A proved loop has to end, and nothing says that an input does: the words are counted down from a
-// number that no run uses up.
-fn run(room: &mut [u8], page: &mut [u8]) {
-    let mut input = stream::start();
-    let mut output = stream::top();
-    let mut left = u64::MAX;
-    while left > 0 {
-        left -= 1;
-        match stream::next_word(room, input) {
-            Word::Is(bits, next) => {
-                output = line(page, output, bits);
-                input = next;
-            }
-            Word::End => left = 0,
-            Word::Short => {
-                output = bad(page, output);
-                left = 0;
-            }
-        }
+// A line for each word, until none comes. A proved loop has to end, and nothing says that an input
+// does: it has more turns than any run takes.
+fn lines(input: &mut Input<'_>, page: &mut Page<'_>) -> Result<(), Over> {
+    for _ in 0..u64::MAX {
+        line(page, input.next_word()?);
     }
-    stream::flush(page, output);
+    Ok(())
 }
 
 fn main() {
     let mut room = io::large_buffer();
-    let mut page = io::large_buffer();
-    run(&mut room, &mut page);
+    let mut bytes = io::large_buffer();
+    let mut input = Input::new(&mut room);
+    let mut page = Page::new(&mut bytes);
+    if lines(&mut input, &mut page) == Err(Over::Short) {
+        page.put_text(b"bad input\n");
+    }
+    page.flush();
 }
