@@ -83,6 +83,6 @@ module _ (c : Choice) (n : ℕ) (radius : Float) (g H w : List Float) where
   unfolding door
   shut_size e = rw (sym (no_step n (length H) (length g) (length w)) ∙ e) (record { says = refl; lays = refl })
 
-  pub shut_kernel : sizes ≡ true → known c ≡ false → Laid (door c n radius g H w) (Err Setting) w w
+  pub shut_kernel : {s : ℕ} → Lent n (length H) (length g) s (length w) → known c ≡ false → Laid (door c n radius g H w) (Err Setting) w w
   unfolding door
-  shut_kernel e k = rw (sym (no_step n (length H) (length g) (length w)) ∙ e, k) (record { says = refl; lays = refl })
+  shut_kernel l k = rw (size_test l.square, eq-eqb (length H) (n * n) l.square.long, eq-eqb (length g) n l.gradient, eq-eqb (length w) (room n) l.roomy.long, k) (record { says = refl; lays = refl })

@@ -11,7 +11,7 @@ use lib.Ieee.{Float}
 use borrow.Rule.Slice.PartMut.{mid_of, put_mid}
 use borrow.Author.Tests.{eqb-true, eq-eqb}
 use Rattle.std.specs.Prelude.{Result, Ok, Err}
-use Rattle.std.specs.Result.{IsErrAnd, is_err}
+use Rattle.std.specs.Result.{OnOk, IsErrAnd, is_err}
 use Rattle.std.proofs.lemmas.Result.{err_from_is_err_and}
 use Rattle.float.specs.Constants.{nought}
 use Rattle.float.specs.Numbers.{finite}
@@ -23,7 +23,7 @@ use Rattle.vectors.specs.declared.refusal.Refusal.{Refusal}
 use Rattle.vectors.specs.declared.refusal.Refusal.TheVariants.{Size, Setting, Entry, Range}
 use Rattle.kernels.specs.declared.kernel.Stepped.{Stepped}
 use Rattle.vectors.proofs.Norms.{norm_tells}
-use Rattle.vectors.proofs.Sizes.{each_holds, square_by, size_test}
+use Rattle.vectors.proofs.Sizes.{was_right, each_holds, square_by, size_test}
 use Rattle.kernels.proofs.Rows.{low_room}
 
 -- ---- a list of checks, and the verdict on it
@@ -73,7 +73,7 @@ by_check r e right result i h =
     let x = was_wrong r e right h in
     (p.1 ∙ ap Err (p.2 ∙ x.1), x.0)
 
-pub lent_true : (n h g step scratch : ℕ) → all_hold (size n ∷ eqb h (n * n) ∷ eqb g n ∷ eqb step n ∷ eqb scratch (room n) ∷ []) ≡ true → Lent n h g step scratch
+lent_true : (n h g step scratch : ℕ) → all_hold (size n ∷ eqb h (n * n) ∷ eqb g n ∷ eqb step n ∷ eqb scratch (room n) ∷ []) ≡ true → Lent n h g step scratch
 lent_true n h g step scratch e =
     let t = each_holds (size n ∷ eqb h (n * n) ∷ eqb g n ∷ eqb step n ∷ eqb scratch (room n) ∷ []) e in
     let square = square_by n h t.0 t.1.0 in
@@ -83,6 +83,10 @@ lent_true n h g step scratch e =
       step = eqb-true step n t.1.1.1.0;
       roomy = record { high = square.high; long = eqb-true scratch (room n) t.1.1.1.1.0 };
     }
+
+pub lent_right : (n h g step scratch : ℕ) (r : Result (Unit {0}) Refusal) → r ≡ checked Size (all_hold (size n ∷ eqb h (n * n) ∷ eqb g n ∷ eqb step n ∷ eqb scratch (room n) ∷ [])) → OnOk r (Lent n h g step scratch)
+lent_right n h g step scratch (Ok u) e = lent_true n h g step scratch (was_right Size (all_hold (size n ∷ eqb h (n * n) ∷ eqb g n ∷ eqb step n ∷ eqb scratch (room n) ∷ [])) e)
+lent_right n h g step scratch (Err r) e = tt
 
 -- what `hand_over` asks of it
 pub over_ready : {n h g s scratch : ℕ} (scratch' : ℕ) → Lent n h g s scratch → scratch' ≡ scratch → (s ≡ n) × (n ≤ scratch')

@@ -25,7 +25,6 @@ use Rattle.kernels.specs.declared.steihaug.Roots.{Roots}
 use Rattle.kernels.specs.declared.steihaug.Valued.{Valued}
 use Rattle.vectors.proofs.Vectors.{length_tab, length_plus}
 use Rattle.kernels.proofs.Ops.{zip_plus_times, zip_turned_plus_times}
-use Rattle.vectors.proofs.Slots.{length_slot}
 use Rattle.kernels.proofs.Kernels.{Late, then_handed, reached_same}
 
 -- ---- by model

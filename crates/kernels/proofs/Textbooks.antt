@@ -6,7 +6,7 @@ use Prim.Native.Nat.{ℕ}
 use lib.ListN.{length}
 use lib.Ieee.{Float, lt, le}
 use Rattle.std.specs.Prelude.{Result}
-use Rattle.float.specs.Numbers.{◌⊕◌, ◌⊖◌, ◌⊗◌, ◌⊘◌, square}
+use Rattle.float.specs.Numbers.{◌⊕◌, ◌⊗◌, ◌⊘◌, square}
 use Rattle.float.specs.Constants.{nought}
 use Rattle.vectors.specs.Vector.{norm, weighted, minus, scale}
 use Rattle.vectors.specs.Slots.{slot, Puts}

@@ -13,7 +13,8 @@ use vectors::refusal::Refusal;
 use vectors::vector;
 
 // Which kernel, and what it is told beside the radius and its lists: epsilon and the limit are Steihaug's, and of the two
-// doglegs 1 is the ported one, 2 the textbook's.
+// doglegs 1 is the ported one, 2 the textbook's. A caller may give any numbers, and those that name nothing are refused by 2:
+// so these are numbers still, and `Kernel` is what they name.
 #[derive(Clone, Copy)]
 pub struct Choice {
     pub kernel: u64,
@@ -56,7 +57,7 @@ impl Choice {
 }
 
 // The kernels by name, each with what it is told beside the subproblem.
-#[derive(Clone, Copy, Debug, PartialEq)]
+#[derive(Clone, Copy)]
 pub(crate) enum Kernel {
     CauchyPoint,
     Dogleg,
@@ -151,7 +152,7 @@ pub fn lay_unchecked(
     ensures { Laid (door choice n radius gradient.now hessian.now scratch.old) result scratch.old scratch.new }
 {
     // no step is lent here, hence n for its length
-    Refusal::Size.unless(kernel::sized(n, hessian.len(), gradient.len(), n, scratch.len()))?;
+    kernel::lent(n, hessian.len(), gradient.len(), n, scratch.len())?;
     let kernel = Kernel::try_from(choice)?;
     let problem = Subproblem {
         n,
@@ -201,13 +202,7 @@ pub(crate) fn call(
     ensures { Took (called (bounds_of kernel) (kernel_of kernel) n radius gradient.now hessian.now step.old scratch.old)
         result step.old step.new scratch.old scratch.new }
 {
-    Refusal::Size.unless(kernel::sized(
-        n,
-        hessian.len(),
-        gradient.len(),
-        step.len(),
-        scratch.len(),
-    ))?;
+    kernel::lent(n, hessian.len(), gradient.len(), step.len(), scratch.len())?;
     call_sized(kernel, n, radius, gradient, hessian, step, scratch)
 }
 
@@ -224,13 +219,7 @@ pub fn direct(
     ensures { Took (called (Definition.asked choice) (Definition.kernel choice) n radius gradient.now hessian.now step.old scratch.old)
         result step.old step.new scratch.old scratch.new }
 {
-    Refusal::Size.unless(kernel::sized(
-        n,
-        hessian.len(),
-        gradient.len(),
-        step.len(),
-        scratch.len(),
-    ))?;
+    kernel::lent(n, hessian.len(), gradient.len(), step.len(), scratch.len())?;
     call_sized(
         Kernel::try_from(choice)?,
         n,

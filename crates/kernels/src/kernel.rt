@@ -1,11 +1,12 @@
 // What the kernels share: the checks before them, and the end of each.
-ghost use Rattle.std.specs.Prelude.{◌≡◌, ◌&&◌, List, [], ◌∷◌, ◌++◌, ◌+◌, ◌*◌, ◌≤◌, eqb, length, drop, Float};
+ghost use Rattle.std.specs.Prelude.{◌≡◌, ◌&&◌, List, [], ◌∷◌, ◌++◌, ◌+◌, ◌*◌, ◌≤◌, eqb, length, drop, Float, OnOk};
 ghost use Rattle.vectors.specs.Vector as Vector;
 ghost use Rattle.vectors.specs.Vector.{zeros};
 ghost use Rattle.vectors.specs.Slots.{slot};
-ghost use Rattle.vectors.specs.Refusal.{all_hold, size, room};
+ghost use Rattle.vectors.specs.Refusal.{all_hold, size, room, checked};
+ghost use Rattle.vectors.specs.declared.refusal.Refusal.TheVariants.{Size};
 ghost use Rattle.kernels.specs.Kernel as Kernel;
-ghost use Rattle.kernels.specs.Kernel.{made, handed_out, handed_over, bounded, Reached};
+ghost use Rattle.kernels.specs.Kernel.{made, handed_out, handed_over, bounded, Lent, Reached};
 
 use crate::workspace;
 use vectors::refusal::Refusal;
@@ -34,10 +35,18 @@ pub(crate) fn bounded(epsilon: f64, limit: u64) -> bool
 }
 
 // The lengths of a kernel's matrix, gradient, step and scratch.
-pub(crate) fn sized(n: usize, h: usize, g: usize, step: usize, scratch: usize) -> bool
+fn sized(n: usize, h: usize, g: usize, step: usize, scratch: usize) -> bool
     ensures { result ≡ all_hold (size n ∷ eqb h (n * n) ∷ eqb g n ∷ eqb step n ∷ eqb scratch (room n) ∷ []) }
 {
     refusal::shaped(n, h, g, step) && scratch == 2 * (n * n) + 8 * n
+}
+
+// Refusal 1, unless they are right.
+pub(crate) fn lent(n: usize, h: usize, g: usize, step: usize, scratch: usize) -> Result<(), Refusal>
+    ensures says { result ≡ checked Size (all_hold (size n ∷ eqb h (n * n) ∷ eqb g n ∷ eqb step n ∷ eqb scratch (room n) ∷ [])) }
+    ensures right { OnOk result (Lent n h g step scratch) }
+{
+    Refusal::Size.unless(sized(n, h, g, step, scratch))
 }
 
 // The end of every kernel: slot 0 is its step, unless refusal 8 is due. What a refusal leaves in the scratch is for the
