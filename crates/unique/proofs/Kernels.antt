@@ -1,15 +1,17 @@
 -- crates/kernels: each contract has one result. Assumes nothing.
 use mathlib.Core.Path.{◌≡◌, refl}
 use mathlib.Core.List.{List, [], ◌∷◌}
+use Rattle.std.specs.Prelude.{Result}
 use lib.Ieee.{Float}
 use Rattle.vectors.specs.Refusal.{Answer}
 use Rattle.kernels.specs.Kernel.{Made, Took}
+use Rattle.vectors.specs.declared.refusal.Refusal.{Refusal}
 use Rattle.kernels.specs.declared.kernel.Stepped.{Stepped}
 use Rattle.unique.proofs.Law.{Line, unique, equation, alike, ◌&◌}
 use Rattle.unique.proofs.Vectors.{wrote}
 use Rattle.kernels.specs.contracts as kernels
 
-took : {a : Answer Made} {r r₂ : Stepped} {s s' s'' w w' w'' : List Float} → Took a r s s' w w' → Took a r₂ s s'' w w'' → (r ≡ r₂) × (s' ≡ s'') × (w' ≡ w'')
+took : {a : Answer Made} {r r₂ : Result Stepped Refusal} {s s' s'' w w' w'' : List Float} → Took a r s s' w w' → Took a r₂ s s'' w w'' → (r ≡ r₂) × (s' ≡ s'') × (w' ≡ w'')
 took p q = (alike p.says q.says, alike p.leaves q.leaves, alike p.clears q.clears)
 
 pub table : List Line

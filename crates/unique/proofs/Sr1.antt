@@ -5,11 +5,9 @@ use lib.Ieee.{Float}
 use Rattle.vectors.specs.Refusal.{Answer}
 use Rattle.offer.specs.Run.{Does}
 use Rattle.sr1.specs.Settings.{chosen}
-use Rattle.sr1.specs.Session.{Proposal, Judgement}
-use Rattle.sr1.specs.Calls.{Proposes, Judges}
+use Rattle.sr1.specs.Session.{Session, Proposal, Judgement}
+use Rattle.sr1.specs.Calls.{After, Proposes, Judges}
 use Rattle.sr1.specs.Run.{propose, answer, outcome, respond}
-use Rattle.sr1.specs.declared.session.Session.{Session}
-use Rattle.sr1.specs.declared.session.After.{After}
 use Rattle.unique.proofs.Law.{Contract, Fact, States, states, Line, unique, equation, alike, ◌&◌}
 use Rattle.sr1.specs.contracts.settings as settings
 use Rattle.sr1.specs.contracts.session as session
@@ -34,6 +32,11 @@ table =
     ∷ equation settings.Settings.with_allowance.ended (λ M 𝓤. settings.Settings.with_allowance.spec) (λ w κs a g r. refl) (λ κs a s s₂. refl)
     ∷ equation settings.Settings.with_edition.ended (λ M 𝓤. settings.Settings.with_edition.spec) (λ w κs a g r. refl) (λ κs a s s₂. refl)
     ∷ equation settings.in_range.ended (λ M 𝓤. settings.in_range.spec) (λ w κs a g r. refl) (λ κs a s s₂. refl)
+    ∷ equation settings.SettingsKind.in_range.ended (λ M 𝓤. settings.SettingsKind.in_range.spec) (λ w κs a g r. refl) (λ κs a s s₂. refl)
+    ∷ equation settings.SettingsKind.choice.ended (λ M 𝓤. settings.SettingsKind.choice.spec) (λ w κs a g r. refl) (λ κs a s s₂. refl)
+    ∷ equation settings.SettingsKind.allowance.ended (λ M 𝓤. settings.SettingsKind.allowance.spec) (λ w κs a g r. refl) (λ κs a s s₂. refl)
+    ∷ equation settings.SettingsKind.first_radius.ended (λ M 𝓤. settings.SettingsKind.first_radius.spec) (λ w κs a g r. refl) (λ κs a s s₂. refl)
+    ∷ equation settings.SettingsKind.promise.ended (λ M 𝓤. settings.SettingsKind.promise.spec) (λ w κs a g r. refl) (λ κs a s s₂. refl)
     ∷ equation session.sound.ended (λ M 𝓤. session.sound.spec) (λ w κs a g r. refl) (λ κs a s s₂. refl)
     ∷ equation method.start.ended (λ M 𝓤. method.start.spec) (λ w κs a g r. refl) (λ κs a s s₂. refl)
     ∷ unique method.proposed.ended (λ M 𝓤. method.proposed.spec) (λ w κs a g r. refl) (λ κs a r r₂ s s₂ p q. let e = proposes p q in (e.0, λ i. tt & tt & tt & tt & tt & e.1 i & e.2 i & e.3 i & tt))

@@ -49,9 +49,12 @@ put_piece : (c : Piece) (p p₁ p₂ : Page) → PutPiece c p p₁ → PutPiece 
 put_piece (text t) p p₁ p₂ q r = put q r
 put_piece (whole n) p p₁ p₂ q r = put_whole q r
 
-pub puts : (cs : List Piece) (p p₀ p₁ p₂ : Page) → p ≡ p₀ → Puts cs p p₁ → Puts cs p₀ p₂ → p₁ ≡ p₂
-puts [] p p₀ p₁ p₂ e none none = e
-puts (c ∷ cs) p p₀ p₁ p₂ e (one {page₁ = m} q qs) (one {page₁ = n} r rs) = puts cs m n p₁ p₂ (put_piece c p m n q (subst (λ (b : Page). PutPiece c b n) (sym e) r)) qs rs
+from : (cs : List Piece) {p p₀ p₁ p₂ : Page} → p ≡ p₀ → Puts cs p p₁ → Puts cs p₀ p₂ → p₁ ≡ p₂
+from [] e none none = e
+from (c ∷ cs) {p} {p₀} e (one {page₁ = m} q qs) (one {page₁ = n} r rs) = from cs (put_piece c p m n q (subst (λ (b : Page). PutPiece c b n) (sym e) r)) qs rs
+
+pub puts : (cs : List Piece) {p p₁ p₂ : Page} → Puts cs p p₁ → Puts cs p p₂ → p₁ ≡ p₂
+puts cs = from cs refl
 
 pub table : List Line
 table =
@@ -62,9 +65,9 @@ table =
     ∷ unique stream.output.Page.put_whole.ended (λ M 𝓤. stream.output.Page.put_whole.spec) (λ w κs a g r. refl) (λ κs a r r₂ s s₂ p q. (refl, λ i. put_whole p q i & tt & tt))
     ∷ unique stream.output.Page.put_blank.ended (λ M 𝓤. stream.output.Page.put_blank.spec) (λ w κs a g r. refl) (λ κs a r r₂ s s₂ p q. (refl, λ i. put p q i & tt))
     ∷ unique stream.output.Page.put_line_end.ended (λ M 𝓤. stream.output.Page.put_line_end.spec) (λ w κs a g r. refl) (λ κs a r r₂ s s₂ p q. (refl, λ i. put p q i & tt))
-    ∷ unique stream.output.Page.put_refused.ended (λ M 𝓤. stream.output.Page.put_refused.spec) (λ w κs a g r. refl) (λ κs a r r₂ s s₂ p q. (refl, λ i. puts _ _ _ _ _ refl p q i & tt & tt))
-    ∷ unique stream.output.Page.put_named.ended (λ M 𝓤. stream.output.Page.put_named.spec) (λ w κs a g r. refl) (λ κs a r r₂ s s₂ p q. (refl, λ i. puts _ _ _ _ _ refl p q i & tt & tt & tt))
-    ∷ unique stream.output.Page.put_list.ended (λ M 𝓤. stream.output.Page.put_list.spec) (λ w κs a g r. refl) (λ κs a r r₂ s s₂ p q. (refl, λ i. puts _ _ _ _ _ refl p q i & tt & tt & tt))
+    ∷ unique stream.output.Page.put_refused.ended (λ M 𝓤. stream.output.Page.put_refused.spec) (λ w κs a g r. refl) (λ κs a r r₂ s s₂ p q. (refl, λ i. puts _ p q i & tt & tt))
+    ∷ unique stream.output.Page.put_named.ended (λ M 𝓤. stream.output.Page.put_named.spec) (λ w κs a g r. refl) (λ κs a r r₂ s s₂ p q. (refl, λ i. puts _ p q i & tt & tt & tt))
+    ∷ unique stream.output.Page.put_list.ended (λ M 𝓤. stream.output.Page.put_list.spec) (λ w κs a g r. refl) (λ κs a r r₂ s s₂ p q. (refl, λ i. puts _ p q i & tt & tt & tt))
     ∷ unique stream.input.Input.new.ended (λ M 𝓤. stream.input.Input.new.spec) (λ w κs a g r. refl) (λ κs a r r₂ s s₂ p q. (input (alike p.kept q.kept) (alike p.place q.place) (alike p.last q.last), refl))
     ∷ []
 

@@ -5,21 +5,16 @@ use lib.Ieee.{Float}
 use Rattle.vectors.specs.Refusal.{Answer}
 use Rattle.offer.specs.Run.{Does}
 use Rattle.trustregion.specs.Settings.{chosen}
-use Rattle.trustregion.specs.Session.{Proposal, Judgement, Renewal}
-use Rattle.trustregion.specs.Calls.{Proposes, Judges, Renews}
+use Rattle.trustregion.specs.Session.{Session, Judgement, Renewal}
+use Rattle.trustregion.specs.Calls.{After, Judges, Renews}
 use Rattle.trustregion.specs.Run.{propose, cost, derivatives, outcome, respond}
-use Rattle.trustregion.specs.declared.session.Session.{Session}
-use Rattle.trustregion.specs.declared.session.After.{After}
+use Rattle.unique.proofs.Offer.{proposes}
 use Rattle.unique.proofs.Law.{Contract, Fact, States, states, Line, unique, equation, alike, ◌&◌}
 use Rattle.trustregion.specs.contracts.settings as settings
 use Rattle.trustregion.specs.contracts.session as session
 use Rattle.trustregion.specs.contracts.trustregion_method as method
 use Rattle.trustregion.specs.contracts.in_place as place
 use Rattle.trustregion.proofs.Calls.{run_proposes, run_judges, run_renews}
-
-pub proposes : {s : Session} {r r₂ : After} {a : Answer Proposal} {step trial scratch step₁ trial₁ scratch₁ step₂ trial₂ scratch₂ : List Float}
-    → Proposes a s step trial scratch r step₁ trial₁ scratch₁ → Proposes a s step trial scratch r₂ step₂ trial₂ scratch₂ → (r ≡ r₂) × (step₁ ≡ step₂) × (trial₁ ≡ trial₂) × (scratch₁ ≡ scratch₂)
-proposes p q = (alike p.says q.says, alike p.leaves_step q.leaves_step, alike p.leaves_trial q.leaves_trial, alike p.leaves_scratch q.leaves_scratch)
 
 pub judges : {s : Session} {r r₂ : After} {a : Answer Judgement} {point point₁ point₂ : List Float} → Judges a s point r point₁ → Judges a s point r₂ point₂ → (r ≡ r₂) × (point₁ ≡ point₂)
 judges p q = (alike p.says q.says, alike p.leaves_point q.leaves_point)
@@ -34,6 +29,11 @@ table =
     ∷ equation settings.Settings.of.ended (λ M 𝓤. settings.Settings.of.spec) (λ w κs a g r. refl) (λ κs a s s₂. refl)
     ∷ equation settings.Settings.with_allowance.ended (λ M 𝓤. settings.Settings.with_allowance.spec) (λ w κs a g r. refl) (λ κs a s s₂. refl)
     ∷ equation settings.in_range.ended (λ M 𝓤. settings.in_range.spec) (λ w κs a g r. refl) (λ κs a s s₂. refl)
+    ∷ equation settings.SettingsKind.in_range.ended (λ M 𝓤. settings.SettingsKind.in_range.spec) (λ w κs a g r. refl) (λ κs a s s₂. refl)
+    ∷ equation settings.SettingsKind.choice.ended (λ M 𝓤. settings.SettingsKind.choice.spec) (λ w κs a g r. refl) (λ κs a s s₂. refl)
+    ∷ equation settings.SettingsKind.allowance.ended (λ M 𝓤. settings.SettingsKind.allowance.spec) (λ w κs a g r. refl) (λ κs a s s₂. refl)
+    ∷ equation settings.SettingsKind.first_radius.ended (λ M 𝓤. settings.SettingsKind.first_radius.spec) (λ w κs a g r. refl) (λ κs a s s₂. refl)
+    ∷ equation settings.SettingsKind.promise.ended (λ M 𝓤. settings.SettingsKind.promise.spec) (λ w κs a g r. refl) (λ κs a s s₂. refl)
     ∷ equation session.sound.ended (λ M 𝓤. session.sound.spec) (λ w κs a g r. refl) (λ κs a s s₂. refl)
     ∷ equation method.start.ended (λ M 𝓤. method.start.spec) (λ w κs a g r. refl) (λ κs a s s₂. refl)
     ∷ unique method.proposed.ended (λ M 𝓤. method.proposed.spec) (λ w κs a g r. refl) (λ κs a r r₂ s s₂ p q. let e = proposes p q in (e.0, λ i. tt & tt & tt & tt & tt & e.1 i & e.2 i & e.3 i & tt))

@@ -31,6 +31,7 @@ pub table : List Line
 table =
     equation refusal.Refusal.number.ended (λ M 𝓤. refusal.Refusal.number.spec) (λ w κs a g r. refl) (λ κs a s s₂. refl)
     ∷ equation refusal.Refusal.unless.ended (λ M 𝓤. refusal.Refusal.unless.spec) (λ w κs a g r. refl) (λ κs a s s₂. refl)
+    ∷ equation refusal.U64FromRefusal.from.ended (λ M 𝓤. refusal.U64FromRefusal.from.spec) (λ w κs a g r. refl) (λ κs a s s₂. refl)
     ∷ equation refusal.all_hold.ended (λ M 𝓤. refusal.all_hold.spec) (λ w κs a g r. refl) (λ κs a s s₂. refl)
     ∷ equation refusal.size.ended (λ M 𝓤. refusal.size.spec) (λ w κs a g r. refl) (λ κs a s s₂. refl)
     ∷ equation refusal.vectors.ended (λ M 𝓤. refusal.vectors.spec) (λ w κs a g r. refl) (λ κs a s s₂. refl)
