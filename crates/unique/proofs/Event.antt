@@ -6,6 +6,6 @@ use Rattle.event.specs.contracts as event
 
 pub table : List Line
 table =
-    equation event.said.ended (λ M 𝓤. event.said.spec) (λ w κs a g r. refl) (λ κs a s s₂. refl)
-    ∷ equation event.is_last.ended (λ M 𝓤. event.is_last.spec) (λ w κs a g r. refl) (λ κs a s s₂. refl)
+    equation event.Event.said.ended (λ M 𝓤. event.Event.said.spec) (λ w κs a g r. refl) (λ κs a s s₂. refl)
+    ∷ equation event.Event.is_last.ended (λ M 𝓤. event.Event.is_last.spec) (λ w κs a g r. refl) (λ κs a s s₂. refl)
     ∷ []

@@ -7,6 +7,6 @@ use Rattle.report.specs.contracts as report
 
 pub table : List Line
 table =
-    unique report.lines.put.ended (λ M 𝓤. report.lines.put.spec) (λ w κs a g r. refl) (λ κs a r r₂ s s₂ p q. (refl, λ i. puts _ _ _ _ _ refl p q i & tt & tt & tt & tt & tt & tt & tt & tt))
-    ∷ unique report.table.put.ended (λ M 𝓤. report.table.put.spec) (λ w κs a g r. refl) (λ κs a r r₂ s s₂ p q. (refl, λ i. puts _ _ _ _ _ refl p q i & tt & tt & tt & tt))
+    unique report.lines.put.ended (λ M 𝓤. report.lines.put.spec) (λ w κs a g r. refl) (λ κs a r r₂ s s₂ p q. (refl, λ i. puts _ p q i & tt & tt & tt & tt & tt & tt & tt & tt))
+    ∷ unique report.table.put.ended (λ M 𝓤. report.table.put.spec) (λ w κs a g r. refl) (λ κs a r r₂ s s₂ p q. (refl, λ i. puts _ p q i & tt & tt & tt & tt))
     ∷ []
