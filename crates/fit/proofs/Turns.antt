@@ -1,30 +1,33 @@
 -- What the words of a call come to. Assumes nothing.
-use Rattle.std.proofs.Common.{◌≡◌, ℕ, suc, ◌<◌, ◌≤◌, Bool, true, false, cond, not, List, [], ◌∷◌, length, take, sym, refl, ap, ◌∙◌, subst, arith, length-take-le}
+use Rattle.std.proofs.Common.{◌≡◌, ℕ, suc, ◌<◌, ◌≤◌, Bool, true, false, cond, not, List, [], ◌∷◌, Option, Some, None, length, take, sym, refl, ap, ◌∙◌, subst, arith, length-take-le}
 use Rattle.offer.specs.Run.{Vectors}
 use Rattle.offer.specs.declared.state.State.{State}
 use Rattle.script.specs.Call.{Call, asked}
+use Rattle.script.specs.Call as Call
+use Rattle.script.specs.declared.Kind.{Kind}
 use Rattle.event.specs.declared.Event.{Event}
 use Rattle.event.specs.declared.Event.TheVariants as event
+use Rattle.event.specs.Event.{is_last}
 use Rattle.station.specs.Happening.{Station, at, Performed}
 use Rattle.station.specs.Station.{kind_of, state_of, perform_by, perform}
 use Rattle.station.specs.declared.Session.{Session}
 use Rattle.station.specs.declared.Session.TheVariants as Kinds
 use Rattle.station.specs.declared.After.{After}
 use Rattle.stream.specs.Pieces.{Puts}
-use Rattle.stream.specs.declared.output.Output.{Output}
-use Rattle.event.specs.Event.{is_last}
-use Rattle.script.specs.declared.Kind.{Kind}
-use Rattle.fit.specs.Reading.{Holds, Came_to, wants_more}
-use Rattle.fit.specs.Meaning.{is_end, comes_to, trials_after, written, Turned}
-use Rattle.fit.specs.declared.Manner.{Manner}
+use Rattle.stream.specs.Input.{Same}
+use Rattle.stream.specs.declared.input.Over.{Over}
+use Rattle.stream.specs.declared.input.Over.TheVariants as over
+use Rattle.stream.specs.declared.output.Page.{Page}
+use Rattle.stream.proofs.Found.{same, same_still}
+use Rattle.fit.specs.Reading.{Holds, Came_to, Skips, wants_more, is_end}
+use Rattle.fit.specs.Meaning.{comes_to, trials_after, written, Turned, Kept, Ended}
+use Rattle.fit.specs.declared.Form.{Form}
 use Rattle.fit.specs.declared.Standing.{Standing}
 use Rattle.fit.specs.declared.reading.Part.TheVariants as part
-use Rattle.fit.specs.declared.reading.Ending.{Ending}
-use Rattle.fit.specs.declared.reading.Ending.TheVariants as ending
-use Rattle.script.specs.Call as Call
 use Rattle.fit.specs.declared.reading.Held.{Held}
 use Rattle.fit.specs.declared.reading.Script.{Script}
-use Rattle.fit.proofs.Words.{over_nothing}
+use Rattle.fit.proofs.Words.{came_same, all_same, ends_nothing}
+use Rattle.fit.proofs.Pages.{puts_same}
 
 module _ (n : ℕ) (session : Session) (v : Vectors) (words : List ℕ) (held : Held) (within : held.count ≤ length words) where
   pub comes_end : is_end held.ending held.count ≡ true → (state : State) → state ≡ state_of session
@@ -36,23 +39,36 @@ module _ (n : ℕ) (session : Session) (v : Vectors) (words : List ℕ) (held : 
   comes_call e c told r v' p = rw (length-take-le held.count words within, e) (subst (λ (x : Call). Performed (perform x (at session v)) r v') told p)
 
 -- a turn, from its parts
-pub turned : (m : Manner) (n : ℕ) (tells_more : Bool) (standing : Standing) (v : Vectors) {room page room' page' words' : List ℕ} {held : Held} {after : After} {v' : Vectors} {put : Output} {k : ℕ} {kind : Kind} {last : Bool}
-    → kind ≡ kind_of standing.session → Holds (part.Call kind n) room standing.script held room' words'
-    → Performed (comes_to n (at standing.session v) (take held.count words') held.ending) after v'
-    → Puts (written m standing.trials after.event tells_more v'.point v'.gradient v'.hessian v'.step v'.trial) page standing.output.at page' put.at
+pub turned : (f : Form) (standing : Standing) (v : Vectors) {script script' : Script} {page page' : Page} {words' : List ℕ} {held : Held} {after : After} {v' : Vectors} {k : ℕ} {kind : Kind} {last : Bool}
+    → kind ≡ kind_of standing.session → Holds (part.Call kind f.n) script script' held words'
+    → Performed (comes_to f.n (at standing.session v) (take held.count words') held.ending) after v'
+    → Puts (written f.manner standing.trials after.event f.tells_more v') page page'
     → k ≡ trials_after standing.trials after.event → last ≡ is_last after.event
-    → Turned m n tells_more standing room page v (record { session = after.session; script = held.script; output = put; trials = k; running = not last }) room' page' v'
-turned m n tells_more standing v {words' = words'} {held = held} {after = after} e h p q c l = record {
+    → Turned f standing script page v (record { session = after.session; trials = k; running = not last }) script' page' v'
+turned f standing v {words' = words'} {held = held} {after = after} e h p q c l = record {
   words = take held.count words';
   how = held.ending;
   event = after.event;
   comes = h.comes;
-  enough = rw (length-take-le held.count words' h.within) (subst (λ (x : Kind). wants_more held.ending (Call.wants x n (take held.count words')) ≤ held.count) e h.enough);
+  enough = rw (length-take-le held.count words' h.within) (subst (λ (x : Kind). wants_more held.ending (Call.wants x f.n (take held.count words')) ≤ held.count) e h.enough);
   happens = p;
   puts = q;
   counts = c;
   goes_on = ap not l;
 }
+
+pub turned_kept : {f : Form} {standing : Standing} {script script' : Script} {page page' : Page} {v v' : Vectors} {r : Standing} → Turned f standing script page v r script' page' v' → Kept script page script' page'
+turned_kept t = record { room = came_same t.how _ t.words _ t.comes; paper = puts_same t.puts }
+
+pub kept_still : {s s₁ s₂ : Script} {p p₁ p₂ : Page} → Kept s p s₁ p₁ → Kept s₁ p₁ s₂ p₂ → Kept s p s₂ p₂
+kept_still k l = record { room = same_still k.room l.room; paper = same_still k.paper l.paper }
+
+pub kept_by : {script : Script} {page page' : Page} → Same page.bytes page'.bytes → Kept script page script page'
+kept_by e = record { room = same refl; paper = e }
+
+-- a run, from its parts
+pub ended : {s₀ s₁ s₂ s₃ : Script} {p p' : Page} → Same s₀.input.room s₁.input.room → Kept s₁ p s₂ p' → Skips s₂ s₃ → Ended s₀ p s₃ p'
+ended e k z = record { over = z.nothing_left; kept = record { room = same_still e (same_still k.room (all_same z.all)); paper = k.paper } }
 
 -- ---- turns come to an end
 
@@ -62,15 +78,15 @@ unfolding asked Call.wants
 bad_empty (Kinds.TrustRegion s) v n = refl
 bad_empty (Kinds.Sr1 s) v n = refl
 
-empty_last : (n : ℕ) (s : Station) (how : Ending) → is_last (comes_to n s [] how).event ≡ true
-empty_last n s ending.None = ap is_last (bad_empty s.session s.lent n)
-empty_last n s ending.Whole = refl
-empty_last n s ending.Ragged = ap is_last (bad_empty s.session s.lent n)
+empty_last : (n : ℕ) (s : Station) (how : Option Over) → is_last (comes_to n s [] how).event ≡ true
+empty_last n s None = ap is_last (bad_empty s.session s.lent n)
+empty_last n s (Some over.End) = refl
+empty_last n s (Some over.Short) = ap is_last (bad_empty s.session s.lent n)
 
 one_if : Bool → ℕ
 one_if b = cond b 1 0
 
-some_words : (n : ℕ) (s : Station) (how : Ending) (words : List ℕ) (e : Event) (running : Bool) → running ≡ not (is_last e) → e ≡ (comes_to n s words how).event → running ≡ true → 1 ≤ length words
+some_words : (n : ℕ) (s : Station) (how : Option Over) (words : List ℕ) (e : Event) (running : Bool) → running ≡ not (is_last e) → e ≡ (comes_to n s words how).event → running ≡ true → 1 ≤ length words
 unfolding one_if
 some_words n s how [] e running on says so =
     let last : is_last e ≡ true = ap is_last says ∙ empty_last n s how in
@@ -78,10 +94,9 @@ some_words n s how [] e running on says so =
     let off : ◌≡◌ {A = ℕ} 1 0 = ap one_if no in omega (arith, off)
 some_words n s how (w ∷ words) e running on says so = omega arith
 
-fewer_left : (how : Ending) (room : List ℕ) (s : Script) (words room' : List ℕ) (s' : Script) → Came_to how room s words room' s' → 1 ≤ length words → s'.left < s.left
-fewer_left ending.None room s words room' s' p h = omega (arith, p.fewer, h)
-fewer_left ending.Whole room s words room' s' p h = omega (arith, p.read.fewer, h, over_nothing p.ended)
-fewer_left ending.Ragged room s words room' s' p h = omega (arith, p.read.fewer, h, over_nothing p.ended)
+fewer_left : (how : Option Over) (s : Script) (words : List ℕ) (s' : Script) → Came_to how s words s' → 1 ≤ length words → s'.left < s.left
+fewer_left None s words s' p h = omega (arith, p.fewer, h)
+fewer_left (Some e) s words s' p h = omega (arith, p.read.fewer, h, ends_nothing p.ended)
 
 -- how many words a run may still read
 abbrev pub still : Bool → ℕ → ℕ
@@ -92,9 +107,9 @@ still_less : (running : Bool) (left' left : ℕ) → (running ≡ true → left'
 still_less true left' left h = omega (arith, h refl)
 still_less false left' left h = omega arith
 
-pub turned_less : {m : Manner} {n : ℕ} {tells_more : Bool} {standing : Standing} {room page : List ℕ} {v : Vectors} {r : Standing} {room' page' : List ℕ} {v' : Vectors}
-    → Turned m n tells_more standing room page v r room' page' v' → standing.running ≡ true → still r.running r.script.left < still standing.running standing.script.left
-turned_less {n = n} {standing = standing} {room = room} {v = v} {r = r} {room' = room'} t on =
+pub turned_less : {f : Form} {standing : Standing} {script script' : Script} {page page' : Page} {v v' : Vectors} {r : Standing}
+    → Turned f standing script page v r script' page' v' → standing.running ≡ true → still r.running script'.left < still standing.running script.left
+turned_less {f} {standing} {script} {script'} {v = v} {r = r} t on =
     rw on
-    (still_less r.running r.script.left standing.script.left
-    (λ so. fewer_left t.how room standing.script t.words room' r.script t.comes (some_words n (at standing.session v) t.how t.words t.event r.running t.goes_on t.happens.says so)))
+    (still_less r.running script'.left script.left
+    (λ so. fewer_left t.how script t.words script' t.comes (some_words f.n (at standing.session v) t.how t.words t.event r.running t.goes_on t.happens.says so)))

@@ -4,72 +4,72 @@
 
 mod reading;
 
-ghost use Rattle.std.specs.Prelude.{◌≡◌, ◌*◌, ◌≤◌, length, take};
+ghost use Rattle.std.specs.Prelude.{◌≡◌, ◌*◌, ◌≤◌, length, take, IfSome};
 ghost use Rattle.stream.specs.Pieces.{Puts};
-ghost use Rattle.station.specs.Happening.{lent, Performed};
+ghost use Rattle.station.specs.Lists.{Same};
+ghost use Rattle.station.specs.Lists.{held as Lists·held};
+ghost use Rattle.station.specs.Happening.{Performed};
 ghost use Rattle.station.specs.Happening as Happening;
 ghost use Rattle.fit.specs.Meaning as Meaning;
-ghost use Rattle.fit.specs.Meaning.{comes_to, Turned};
+ghost use Rattle.fit.specs.Meaning.{comes_to, Turned, SamePage, Kept, Ended};
 
 use event::Event;
-use reading::{Ending, Held, Part};
-pub use reading::{Script, of, whole_input};
-use script::{call, start};
-use station::{After, Begun, Session};
-use stream::Output;
+pub use reading::Script;
+use reading::{Held, Part};
+use script::{Place, call, start};
+use station::{After, Answers, Lists, Proposal, Session};
+use stream::{Over, Page};
+use vectors::refusal::Refusal;
 
 // How what happened is written: as lines of words, or as a table for people.
-#[derive(Clone, Copy)]
+#[derive(Clone, Copy, Debug, PartialEq, Eq)]
 pub enum Manner {
     Lines,
     Table,
 }
 
-// Where a script leaves what it was read from and what it was written to.
+// What stays the same from a script's start to its end: how it is written, the session's n, and whether its end tells a count.
 #[derive(Clone, Copy)]
-pub struct Ran {
-    pub script: Script,
-    pub output: Output,
+struct Form {
+    manner: Manner,
+    n: usize,
+    tells_more: bool,
+}
+
+// Where the calls of a script stand: so many trials were answered; they go on until the last event of all.
+#[derive(Clone, Copy)]
+struct Standing {
+    session: Session,
+    trials: u64,
+    running: bool,
 }
 
 // Runs a script to its end. What follows words that are bad, or a start that is refused, is read past.
-pub fn run(manner: Manner, room: &mut [u8], page: &mut [u8], script: Script, output: Output) -> Ran
-    ensures { Meaning.Ended room.old page.old room.new page.new result.script }
+pub fn run(manner: Manner, script: &mut Script<'_>, page: &mut Page<'_>)
+    ensures { Ended script.old page.old script.new page.new }
 {
-    let mut words = [0u64; 4239];
-    let held = reading::read(room, &mut words, Part::Start, script);
-    let count = held.count;
-    let ran = opened(manner, room, page, &mut words, count, held.script, output);
-    let put = ran.output;
-    let rest = reading::skip(room, ran.script);
-    Ran {
-        script: rest,
-        output: put,
-    }
+    let mut words = [0; 4239];
+    let start = script.read(&mut words, Part::Start);
+    opened(manner, script, page, &mut words, start.count);
+    script.skip();
 }
 
 // The lists of the session, and those that come with answers, each at its own length.
 fn opened(
     manner: Manner,
-    room: &mut [u8],
-    page: &mut [u8],
+    script: &mut Script<'_>,
+    page: &mut Page<'_>,
     words: &mut [u64],
     count: usize,
-    script: Script,
-    output: Output,
-) -> Ran
+)
     requires { (count ≤ length words.old) × (length words.old ≡ 4239) }
+    ensures { Kept script.old page.old script.new page.new }
 {
-    if start::wanted(&words[..count]) != count {
-        let put = stream::put_text(page, output, b"bad input\n");
-        return Ran {
-            script,
-            output: put,
-        };
-    }
-    let n = start::size(&words[..count]);
+    let Some(n) = size(&words[..count]) else {
+        page.put_text(b"bad input\n");
+        return;
+    };
     let square = n * n;
-    let work = 2 * square + 8 * n;
     let mut point = [0.0; 64];
     let mut gradient = [0.0; 64];
     let mut hessian = [0.0; 4096];
@@ -78,229 +78,130 @@ fn opened(
     let mut scratch = [0.0; 8704];
     let mut new_gradient = [0.0; 64];
     let mut new_hessian = [0.0; 4096];
-    begun(
+    let place = Place {
+        point: &mut point[..n],
+        gradient: &mut gradient[..n],
+        hessian: &mut hessian[..square],
+    };
+    let proposal = Proposal {
+        step: &mut step[..n],
+        trial: &mut trial[..n],
+    };
+    let mut lists = Lists {
+        place,
+        proposal,
+        scratch: &mut scratch[..2 * square + 8 * n],
+    };
+    let form = Form {
         manner,
-        room,
-        page,
-        words,
-        count,
         n,
-        script,
-        output,
-        &mut point[..n],
-        &mut gradient[..n],
-        &mut hessian[..square],
-        &mut step[..n],
-        &mut trial[..n],
-        &mut scratch[..work],
-        &mut new_gradient[..n],
-        &mut new_hessian[..square],
-    )
-}
-
-fn begun(
-    manner: Manner,
-    room: &mut [u8],
-    page: &mut [u8],
-    words: &mut [u64],
-    count: usize,
-    n: usize,
-    script: Script,
-    output: Output,
-    point: &mut [f64],
-    gradient: &mut [f64],
-    hessian: &mut [f64],
-    step: &mut [f64],
-    trial: &mut [f64],
-    scratch: &mut [f64],
-    new_gradient: &mut [f64],
-    new_hessian: &mut [f64],
-) -> Ran
-    requires { (count ≤ length words.old) × (length words.old ≡ 4239) × (length new_gradient.old ≡ n) × (length new_hessian.old ≡ n * n) }
-{
-    let tells_more = start::tells_more(&words[..count]);
-    let told = start::decode(&words[..count], point, gradient, hessian);
-    match station::begin(told) {
-        Begun::Session(session) => {
-            let at = Standing {
-                session,
-                script,
-                output: written(
-                    manner,
-                    page,
-                    output,
-                    0,
-                    Event::Started(station::state_of(session)),
-                    tells_more,
-                    point,
-                    gradient,
-                    hessian,
-                    step,
-                    trial,
-                ),
-                trials: 0,
-                running: true,
-            };
-            calls(
-                manner,
-                room,
-                page,
-                words,
-                n,
-                tells_more,
-                at,
-                point,
-                gradient,
-                hessian,
-                step,
-                trial,
-                scratch,
-                new_gradient,
-                new_hessian,
-            )
-        }
-        Begun::Refused(r) => Ran {
+        tells_more: start::tells_more(&words[..count]),
+    };
+    let begun = station::begin(start::decode(&words[..count], &mut lists.place));
+    if let Some(session) = begin(form, page, begun, &lists) {
+        calls(
+            form,
             script,
-            output: written(
-                manner,
-                page,
-                output,
-                0,
-                Event::NotStarted(r),
-                tells_more,
-                point,
-                gradient,
-                hessian,
-                step,
-                trial,
-            ),
-        },
-        Begun::Odd => Ran {
-            script,
-            output: written(
-                manner,
-                page,
-                output,
-                0,
-                Event::Bad,
-                tells_more,
-                point,
-                gradient,
-                hessian,
-                step,
-                trial,
-            ),
-        },
+            page,
+            words,
+            session,
+            &mut lists,
+            &mut new_gradient[..n],
+            &mut new_hessian[..square],
+        );
     }
 }
 
-// Where the run of a script stands: so many trials were answered; it is running until the last event of all.
-#[derive(Clone, Copy)]
-struct Standing {
-    session: Session,
-    script: Script,
-    output: Output,
-    trials: u64,
-    running: bool,
+// The n of a start, which is small where the start is whole.
+fn size(words: &[u64]) -> Option<usize>
+    ensures { IfSome result (λ n. (n ≤ 64) × (n * n ≤ 4096)) }
+{
+    if start::wanted(words) != words.len() {
+        return None;
+    }
+    Some(start::size(words))
+}
+
+// What a start came to is written, and a session that it began goes on.
+fn begin(
+    form: Form,
+    page: &mut Page<'_>,
+    begun: Option<Result<Session, Refusal>>,
+    lists: &Lists<'_>,
+) -> Option<Session>
+    ensures { SamePage page.old page.new }
+{
+    let event = match begun {
+        Some(Ok(session)) => Event::Started(session.state()),
+        Some(Err(r)) => Event::NotStarted(r),
+        None => Event::Bad,
+    };
+    written(form, page, 0, event, lists);
+    begun?.ok()
 }
 
 fn calls(
-    manner: Manner,
-    room: &mut [u8],
-    page: &mut [u8],
+    form: Form,
+    script: &mut Script<'_>,
+    page: &mut Page<'_>,
     words: &mut [u64],
-    n: usize,
-    tells_more: bool,
-    begun: Standing,
-    point: &mut [f64],
-    gradient: &mut [f64],
-    hessian: &mut [f64],
-    step: &mut [f64],
-    trial: &mut [f64],
-    scratch: &mut [f64],
+    session: Session,
+    lists: &mut Lists<'_>,
     new_gradient: &mut [f64],
     new_hessian: &mut [f64],
-) -> Ran
-    requires { (length words.old ≡ 4239) × (length new_gradient.old ≡ n) × (length new_hessian.old ≡ n * n) }
+)
+    requires { (length words.old ≡ 4239) × (length new_gradient.old ≡ form.n) × (length new_hessian.old ≡ form.n * form.n) }
+    ensures { Kept script.old page.old script.new page.new }
 {
-    let mut at = begun;
+    let mut at = Standing {
+        session,
+        trials: 0,
+        running: true,
+    };
     while at.running {
         at = turn(
-            manner,
-            room,
+            form,
+            script,
             page,
             words,
-            n,
-            tells_more,
             at,
-            point,
-            gradient,
-            hessian,
-            step,
-            trial,
-            scratch,
+            lists,
             new_gradient,
             new_hessian,
         );
     }
-    let script = at.script;
-    let output = at.output;
-    Ran { script, output }
 }
 
 // The next call is read, made and written; or the end.
 fn turn(
-    manner: Manner,
-    room: &mut [u8],
-    page: &mut [u8],
+    form: Form,
+    script: &mut Script<'_>,
+    page: &mut Page<'_>,
     words: &mut [u64],
-    n: usize,
-    tells_more: bool,
     at: Standing,
-    point: &mut [f64],
-    gradient: &mut [f64],
-    hessian: &mut [f64],
-    step: &mut [f64],
-    trial: &mut [f64],
-    scratch: &mut [f64],
+    lists: &mut Lists<'_>,
     new_gradient: &mut [f64],
     new_hessian: &mut [f64],
 ) -> Standing
-    requires { (length words.old ≡ 4239) × (length new_gradient.old ≡ n) × (length new_hessian.old ≡ n * n) }
-    ensures { Turned manner n tells_more
-        at room.old page.old (lent point.old gradient.old hessian.old step.old trial.old scratch.old)
-        result room.new page.new (lent point.new gradient.new hessian.new step.new trial.new scratch.new) }
+    requires { (length words.old ≡ 4239) × (length new_gradient.old ≡ form.n) × (length new_hessian.old ≡ form.n * form.n) }
+    ensures same { Same lists.old lists.new }
+    ensures turned { Turned form at script.old page.old (Lists·held lists.old) result script.new page.new (Lists·held lists.new) }
 {
-    let session = at.session;
-    let part = Part::Call(station::kind(session), n);
-    let held = reading::read(room, words, part, at.script);
+    let held = script.read(words, Part::Call(at.session.kind(), form.n));
     let after = next(
-        session,
+        at.session,
         words,
-        n,
+        form.n,
         held,
-        point,
-        gradient,
-        hessian,
-        step,
-        trial,
-        scratch,
+        lists,
         new_gradient,
         new_hessian,
     );
-    let event = after.event;
-    let put = written(
-        manner, page, at.output, at.trials, event, tells_more, point, gradient, hessian, step,
-        trial,
-    );
-    let script = held.script;
-    let session = after.session;
+    written(form, page, at.trials, after.event, lists);
     Standing {
-        session,
-        script,
-        output: put,
-        trials: trials(at.trials, event),
-        running: !event::is_last(event),
+        session: after.session,
+        trials: trials(at.trials, after.event),
+        running: !after.event.is_last(),
     }
 }
 
@@ -310,57 +211,32 @@ fn next(
     words: &[u64],
     n: usize,
     held: Held,
-    point: &mut [f64],
-    gradient: &mut [f64],
-    hessian: &mut [f64],
-    step: &mut [f64],
-    trial: &mut [f64],
-    scratch: &mut [f64],
+    lists: &mut Lists<'_>,
     new_gradient: &mut [f64],
     new_hessian: &mut [f64],
 ) -> After
     requires { (held.count ≤ length words.now) × (length new_gradient.old ≡ n) × (length new_hessian.old ≡ n * n) }
-    ensures { Performed (comes_to n (Happening.at session (lent point.old gradient.old hessian.old step.old trial.old scratch.old)) (take held.count words.now) held.ending)
-        result (lent point.new gradient.new hessian.new step.new trial.new scratch.new) }
+    ensures same { Same lists.old lists.new }
+    ensures performed { Performed (comes_to n (Happening.at session (Lists·held lists.old)) (take held.count words.now) held.ending) result (Lists·held lists.new) }
 {
-    let count = held.count;
-    if is_end(held) {
+    if held.is_end() {
         return After {
             session,
-            event: Event::Ended(station::state_of(session)),
+            event: Event::Ended(session.state()),
         };
     }
     let told = call::decode(
-        station::kind(session),
+        session.kind(),
         n,
-        &words[..count],
+        &words[..held.count],
         new_gradient,
         new_hessian,
     );
-    station::perform(
-        session,
-        told,
-        new_gradient,
-        new_hessian,
-        point,
-        gradient,
-        hessian,
-        step,
-        trial,
-        scratch,
-    )
-}
-
-// Whether the script ended behind a whole call.
-fn is_end(held: Held) -> bool
-    ensures { result ≡ Meaning.is_end held.ending held.count }
-{
-    let ending = held.ending;
-    match ending {
-        Ending::None => false,
-        Ending::Whole => held.count == 0,
-        Ending::Ragged => false,
-    }
+    let answers = Answers {
+        gradient: new_gradient,
+        hessian: new_hessian,
+    };
+    session.perform(told, answers, lists)
 }
 
 // How many trials were answered, where so many were before the call.
@@ -368,39 +244,26 @@ fn trials(before: u64, event: Event) -> u64
     ensures { result ≡ Meaning.trials_after before event }
 {
     match event {
-        Event::Started(_) => before,
-        Event::NotStarted(_) => before,
-        Event::Refused(_) => before,
-        Event::Done => before,
-        Event::Proposed(_) => before,
-        Event::Judged(_, _, _, _) => std::num::wrapping_add_u64(before, 1),
-        Event::Taken => before,
-        Event::Changed => before,
-        Event::Ended(_) => before,
-        Event::Bad => before,
+        Event::Judged { .. } => before.wrapping_add(1),
+        _ => before,
     }
 }
 
-fn written(
-    manner: Manner,
-    page: &mut [u8],
-    output: Output,
-    trials: u64,
-    event: Event,
-    tells_more: bool,
-    point: &[f64],
-    gradient: &[f64],
-    hessian: &[f64],
-    step: &[f64],
-    trial: &[f64],
-) -> Output
-    ensures { Puts (Meaning.written manner trials event tells_more point.now gradient.now hessian.now step.now trial.now)
-        page.old output.at page.new result.at }
+fn written(form: Form, page: &mut Page<'_>, trials: u64, event: Event, lists: &Lists<'_>)
+    ensures { Puts (Meaning.written form.manner trials event form.tells_more (Lists·held lists.now)) page.old page.new }
 {
-    match manner {
+    let place = &lists.place;
+    match form.manner {
         Manner::Lines => report::lines::put(
-            page, output, event, tells_more, point, gradient, hessian, step, trial,
+            page,
+            event,
+            form.tells_more,
+            place.point,
+            place.gradient,
+            place.hessian,
+            lists.proposal.step,
+            lists.proposal.trial,
         ),
-        Manner::Table => report::table::put(page, output, trials, event, point),
+        Manner::Table => report::table::put(page, trials, event, place.point),
     }
 }

@@ -1,37 +1,17 @@
-// The words of one script, which may be one of many on the same standard input: those of a start or a call come whole, in a lent room.
+// The words of one script, which may be one of many on the same standard input: those of a start or a call come whole, in a lent list.
 ghost use Rattle.std.specs.Prelude.{◌≡◌, ◌≤◌, length, take};
+ghost use Rattle.stream.specs.Input.{Begun};
 ghost use Rattle.fit.specs.Reading as Reading;
-ghost use Rattle.fit.specs.Reading.{Comes, Fills, Holds, Skips, wants, wants_more};
+ghost use Rattle.fit.specs.Reading.{Comes, Fills, Holds, Skips, wants, wants_more, is_end};
 
 use script::{Kind, call, start};
-use stream::{Input, Word};
+use stream::{Input, Over};
 
 // Where it is read on, and how many words it may still have.
-#[derive(Clone, Copy)]
-pub struct Script {
-    pub input: Input,
+#[derive(Drop)]
+pub struct Script<'a> {
+    pub input: Input<'a>,
     pub left: u64,
-}
-
-// A script of so many words.
-pub fn of(input: Input, words: u64) -> Script
-    ensures { result ≡ record { input = input; left = words } }
-{
-    Script { input, left: words }
-}
-
-// A script that goes on to the end of standard input.
-pub fn whole_input() -> Script
-    ensures { result ≡ record { input = record { at = 0; end = 0 }; left = 18446744073709551615 } }
-{
-    of(stream::start(), u64::MAX)
-}
-
-// Standard input is over.
-fn over() -> Script
-    ensures { result ≡ Reading.over }
-{
-    of(stream::start(), 0)
 }
 
 // What is read whole: a start, or a call of a session of a kind and an n.
@@ -41,100 +21,116 @@ pub(crate) enum Part {
     Call(Kind, usize),
 }
 
-// Whether the script goes on, as far as was read; or it ended, behind its last word or with bytes that make none.
-#[derive(Clone, Copy)]
-pub(crate) enum Ending {
-    None,
-    Whole,
-    Ragged,
-}
-
-// How many words of a part are in the room, whether the script ended there, and where it goes on.
+// How many words of a part are there, and how the script ended, where it did: behind its last word or with bytes that make none.
 #[derive(Clone, Copy)]
 pub(crate) struct Held {
     pub(crate) count: usize,
-    pub(crate) ending: Ending,
-    pub(crate) script: Script,
+    pub(crate) ending: Option<Over>,
 }
 
-// The next word, or the script's end.
-#[derive(Clone, Copy)]
-enum Came {
-    Is(u64, Script),
-    Over(Ending, Script),
-}
-
-fn next(room: &mut [u8], script: Script) -> Came
-    ensures { Comes room.old script room.new result }
-{
-    let input = script.input;
-    let left = script.left;
-    if left == 0 {
-        return Came::Over(Ending::Whole, script);
-    }
-    match stream::next_word(room, input) {
-        Word::Is(x, rest) => Came::Is(x, of(rest, left - 1)),
-        Word::End => Came::Over(Ending::Whole, over()),
-        Word::Short => Came::Over(Ending::Ragged, over()),
+impl Held {
+    // Whether the script ended behind a whole call.
+    pub(crate) fn is_end(self) -> bool
+        ensures { result ≡ is_end self.ending self.count }
+    {
+        self.ending == Some(Over::End) && self.count == 0
     }
 }
 
-// Words up to a count, where so many are there already.
-fn fill(room: &mut [u8], words: &mut [u64], have: usize, want: usize, script: Script) -> Held
-    requires { (have ≤ want) × (want ≤ length words.old) }
-    ensures { Fills room.old words.old have want script result room.new words.new }
-{
-    let mut rest = script;
-    let mut count = have;
-    while count < want {
-        match next(room, rest) {
-            Came::Is(x, after) => {
-                words[count] = x;
-                rest = after;
+impl Script<'_> {
+    // A script of so many words.
+    pub fn of(input: Input<'_>, words: u64) -> Script<'_>
+        ensures { result ≡ record { input = input.entry; left = words } }
+    {
+        Script { input, left: words }
+    }
+
+    // A script that goes on to the end of standard input.
+    pub fn whole_input(room: &mut [u8]) -> Script<'_>
+        ensures begun { Begun room.entry result.input }
+        ensures endless { result.left ≡ 18446744073709551615 }
+    {
+        Script::of(Input::new(room), u64::MAX)
+    }
+
+    // The next word, or how the script ended.
+    fn next(&mut self) -> Result<u64, Over>
+        ensures { Comes self.old self.new result }
+    {
+        if self.left == 0 {
+            return Err(Over::End);
+        }
+        match self.input.next_word() {
+            Ok(word) => {
+                self.left -= 1;
+                Ok(word)
             }
-            Came::Over(ending, after) => {
-                return Held {
-                    count,
-                    ending,
-                    script: after,
-                };
+            Err(over) => {
+                self.left = 0;
+                Err(over)
             }
         }
-        count += 1;
     }
-    Held {
-        count,
-        ending: Ending::None,
-        script: rest,
+
+    // Words up to a count, where so many are there already.
+    fn fill(&mut self, words: &mut [u64], have: usize, want: usize) -> Held
+        requires { (have ≤ want) × (want ≤ length words.old) }
+        ensures { Fills words.old have want self.old self.new result words.new }
+    {
+        for count in have..want {
+            match self.next() {
+                Ok(word) => words[count] = word,
+                Err(over) => {
+                    return Held {
+                        count,
+                        ending: Some(over),
+                    };
+                }
+            }
+        }
+        Held {
+            count: want,
+            ending: None,
+        }
+    }
+
+    // All words of a part. Each time those that are there tell how many there are to be; where they make none, no more are read.
+    pub(crate) fn read(&mut self, words: &mut [u64], part: Part) -> Held
+        requires { length words.old ≡ 4239 }
+        ensures { Holds part self.old self.new result words.new }
+    {
+        let mut held = Held {
+            count: 0,
+            ending: None,
+        };
+        let mut want = part.wanted(&words[..0]);
+        while held.count < want {
+            held = self.fill(words, held.count, want);
+            want = more(part, words, held);
+        }
+        held
+    }
+
+    // Reads past what is left.
+    pub(crate) fn skip(&mut self)
+        ensures { Skips self.old self.new }
+    {
+        while self.left > 0 {
+            let _ = self.next();
+        }
     }
 }
 
-// How many words a part has, as far as those that are there tell it.
-fn wanted(part: Part, words: &[u64]) -> usize
-    ensures { (result ≡ wants part words.now) × (result ≤ 4239) }
-{
-    match part {
-        Part::Start => start::wanted(words),
-        Part::Call(kind, n) => call::wanted(kind, n, words),
+impl Part {
+    // How many words it has, as far as those that are there tell it.
+    fn wanted(self, words: &[u64]) -> usize
+        ensures { (result ≡ wants self words.now) × (result ≤ 4239) }
+    {
+        match self {
+            Part::Start => start::wanted(words),
+            Part::Call(kind, n) => call::wanted(kind, n, words),
+        }
     }
-}
-
-// All words of a part. Each time those that are there tell how many there are to be; where they make none, no more are read.
-pub(crate) fn read(room: &mut [u8], words: &mut [u64], part: Part, script: Script) -> Held
-    requires { length words.old ≡ 4239 }
-    ensures { Holds part room.old script result room.new words.new }
-{
-    let mut held = Held {
-        count: 0,
-        ending: Ending::None,
-        script,
-    };
-    let mut want = wanted(part, &words[..0]);
-    while held.count < want {
-        held = fill(room, words, held.count, want, held.script);
-        want = more(part, words, held);
-    }
-    held
 }
 
 // None where the script has ended.
@@ -142,29 +138,8 @@ fn more(part: Part, words: &[u64], held: Held) -> usize
     requires { held.count ≤ length words.now }
     ensures { (result ≡ wants_more held.ending (wants part (take held.count words.now))) × (result ≤ 4239) }
 {
-    let count = held.count;
-    let ending = held.ending;
-    match ending {
-        Ending::None => wanted(part, &words[..count]),
-        Ending::Whole => 0,
-        Ending::Ragged => 0,
+    match held.ending {
+        None => part.wanted(&words[..held.count]),
+        Some(_) => 0,
     }
-}
-
-// Reads past what is left.
-pub(crate) fn skip(room: &mut [u8], script: Script) -> Script
-    ensures { Skips room.old script room.new result }
-{
-    let mut rest = script;
-    while rest.left > 0 {
-        match next(room, rest) {
-            Came::Is(_, after) => {
-                rest = after;
-            }
-            Came::Over(_, after) => {
-                rest = after;
-            }
-        }
-    }
-    rest
 }

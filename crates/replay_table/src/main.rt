@@ -1,12 +1,14 @@
 // Runs the script on standard input, as `replay` does, and writes a table for people.
 #![tactic(auto)]
 
-use fit::Manner;
+use fit::{Manner, Script};
+use stream::Page;
 
 fn main() {
     let mut room = io::large_buffer();
-    let mut page = io::large_buffer();
-    let script = fit::whole_input();
-    let ran = fit::run(Manner::Table, &mut room, &mut page, script, stream::top());
-    stream::flush(&page, ran.output);
+    let mut bytes = io::large_buffer();
+    let mut script = Script::whole_input(&mut room);
+    let mut page = Page::new(&mut bytes);
+    fit::run(Manner::Table, &mut script, &mut page);
+    page.flush();
 }

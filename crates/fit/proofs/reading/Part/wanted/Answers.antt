@@ -1,8 +1,8 @@
--- `fit::reading::wanted` meets its contract. Assumes nothing.
+-- `Part::wanted` meets its contract. Assumes nothing.
 use Rattle.std.proofs.Common.{refl}
 use Rattle.script.proofs.Starts as starts
 use Rattle.script.proofs.Calls as calls
-use Rattle.fit.proofs.reading.wanted.Goals as goal
+use Rattle.fit.proofs.reading.Part.wanted.Goals as goal
 
 pub returns-in-Start : goal.returns-in-Start
 returns-in-Start c = rw (c.in-Start.is, c.wanted.ensures) (refl, starts.wants_small c.args.words.now)

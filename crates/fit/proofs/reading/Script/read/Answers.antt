@@ -1,7 +1,7 @@
--- `fit::reading::read` meets its contract. Assumes nothing.
-use Rattle.std.proofs.Common.{arith, rules}
+-- `Script::read` meets its contract. Assumes nothing.
+use Rattle.std.proofs.Common.{arith}
 use Rattle.fit.proofs.Words.{partly_none, partly_more, partly_less, partly_whole}
-use Rattle.fit.proofs.reading.read.Goals as goal
+use Rattle.fit.proofs.reading.Script.read.Goals as goal
 
 pub loop-held-init : goal.loop-held-init
 loop-held-init c = partly_none _ c.wanted-want.ensures
@@ -19,7 +19,7 @@ pub loop-held-smaller : goal.loop-held-smaller
 loop-held-smaller c = partly_less _ c.loop-held.invariant c.loop-held-test.true c.fill-held.ensures
 
 pub loop-held-preserved : goal.loop-held-preserved
-loop-held-preserved c = partly_more _ c.loop-held.invariant c.loop-held-test.true (search rules) (search rules) c.requires c.fill-held.ensures c.more-want.ensures
+loop-held-preserved c = partly_more _ c.loop-held.invariant c.loop-held-test.true c.fill-held.auto.words c.requires c.fill-held.ensures c.more-want.ensures
 
 pub returns : goal.returns
 returns c = partly_whole _ c.loop-held.invariant (omega (arith, c.loop-held-test.false))
