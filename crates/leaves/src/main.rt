@@ -9,65 +9,41 @@ mod lines;
 mod lists;
 mod numbers;
 
-ghost use Rattle.std.specs.Prelude.{◌-◌, ◌≤◌};
+use stream::{Input, Over, Page};
 
-use lines::Turn;
-use stream::{Input, Output, Word};
-
-fn next_call(room: &mut [u8], page: &mut [u8], turn: Turn) -> Turn {
-    let output = turn.output;
-    let word = stream::next_word(room, turn.input);
-    match word {
-        Word::Is(number, input) => call(room, page, number, input, output),
-        Word::End => lines::stop(page, output),
-        Word::Short => lines::bad(page, output),
-    }
-}
-
-fn call(room: &mut [u8], page: &mut [u8], number: u64, input: Input, output: Output) -> Turn {
-    let place = lists::none(input);
+// One call, by its number.
+fn call(number: u64, input: &mut Input<'_>, page: &mut Page<'_>) -> Option<()> {
     match number {
-        6 => calls::product(room, page, place, output),
-        7 => calls::inverse(room, page, place, output),
-        8 => calls::row(room, page, place, output),
+        6 => calls::product(input, page),
+        7 => calls::inverse(input, page),
+        8 => calls::row(input, page),
         _ => {
-            let found = numbers::call(room, number, place);
-            let number = found.number;
-            lines::answer(page, output, found.next, number)
+            lines::answer(page, numbers::call(number, input)?);
+            Some(())
         }
     }
 }
 
-// How many calls there may be after one of so many.
-fn fewer(left: u64, over: bool) -> u64
-    ensures { result ≤ left - 1 }
-{
-    if over {
-        return 0;
+// Call after call, up to the end; none where the input is bad. A proved loop has to end, and nothing says
+// that an input does: the calls are counted up to a number that no run reaches.
+fn run(input: &mut Input<'_>, page: &mut Page<'_>) -> Option<()> {
+    for _ in 0..u64::MAX {
+        match input.next_word() {
+            Ok(number) => call(number, input, page)?,
+            Err(Over::End) => return Some(()),
+            Err(Over::Short) => return None,
+        }
     }
-    if left == 0 {
-        return 0;
-    }
-    left - 1
-}
-
-// A proved loop has to end, and nothing says that an input does: the calls are counted down from a
-// number that no run uses up.
-fn run(room: &mut [u8], page: &mut [u8]) {
-    let mut turn = Turn {
-        input: stream::start(),
-        output: stream::top(),
-        over: false,
-    };
-    let mut left = u64::MAX;
-    while left > 0 {
-        turn = next_call(room, page, turn);
-        left = fewer(left, turn.over);
-    }
+    Some(())
 }
 
 fn main() {
     let mut room = io::large_buffer();
-    let mut page = io::large_buffer();
-    run(&mut room, &mut page);
+    let mut bytes = io::large_buffer();
+    let mut input = Input::new(&mut room);
+    let mut page = Page::new(&mut bytes);
+    if run(&mut input, &mut page).is_none() {
+        page.put_text(b"bad input\n");
+    }
+    page.flush();
 }
