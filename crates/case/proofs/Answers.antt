@@ -5,23 +5,28 @@ use mathlib.Core.List.{List, [], ◌∷◌, ◌++◌}
 use Prim.Native.Nat.{ℕ, ◌+◌, ◌*◌, ◌≤◌}
 use native.Mathlib.Omega.{arith}
 use lib.Dec.{eqb, leb}
+use Rattle.std.specs.Prelude.{Result, Ok, Err}
 use lib.ListN.{length, take, drop, take-append-drop}
 use lib.Seq.{length-take-le}
 use lib.Ieee.{Float}
 use borrow.Author.Tests.{leb-true}
-use Rattle.vectors.specs.Refusal.{Answer, refused, given, Check, unless, size, room, Square, Roomy, left_in}
+use Rattle.vectors.specs.Refusal.{Answer, refused, given, Check, unless, checked, size, room, Square, Roomy, left_in}
 use Rattle.kernels.specs.Kernel.{Made, Proper, Took}
 use Rattle.kernels.specs.Choice.{kernel}
 use Rattle.vectors.specs.declared.refusal.Refusal.{Refusal}
 use Rattle.vectors.specs.declared.refusal.Refusal.TheVariants.{Size}
 use Rattle.kernels.specs.declared.choice.Choice.{Choice}
 use Rattle.kernels.specs.declared.kernel.Stepped.{Stepped}
-use Rattle.vectors.proofs.Sizes.{both, size_true, square_small}
+use Rattle.vectors.proofs.Sizes.{was_right, both, size_true, square_small}
 use Rattle.vectors.proofs.Vectors.{length_tab}
 use Rattle.kernels.proofs.Choices.{kernel_proper}
-use Rattle.case.specs.declared.Said.{Said}
-use Rattle.case.specs.declared.Said.TheVariants.{Refused}
-use Rattle.case.specs.Case.{numbers, choice_of, size_of, radius_of, gradient_of, hessian_of, fits, run_checks, run, case_answer, enough, answer_in, said, told, in_front, Answered}
+use Rattle.case.specs.declared.Step.{Step}
+use Rattle.case.specs.Case.{numbers, choice_of, size_of, radius_of, gradient_of, hessian_of, fits, run_checks, run, case_answer, enough, answer_in, said, in_front, Answered}
+
+-- what is said of a kernel's own answer, for a step of n numbers
+abbrev pub told : ℕ → Result Stepped Refusal → Result Step Refusal
+told n (Ok made) = Ok (record { size = n; passes = made.passes })
+told n (Err r) = Err r
 
 -- ---- a step has n numbers
 
@@ -73,15 +78,29 @@ sizes_true bytes n g H step w e f =
       scratch = leb-true 8704 w p.1;
     }
 
--- the parts that are lent to the kernel, of a, b and d numbers
-module _ (n a b d : ℕ) (g H step w : List Float) (p : a ≡ n) (q : b ≡ n * n) (r : d ≡ room n) where
-  pub parts : Sizes n (length g) (length H) (length step) (length w) → Square n (length (take b H)) × (length (take a g) ≡ n) × (length (take a step) ≡ n) × Roomy n (length (take d w))
-  parts s = (
-    record { low = s.low; high = s.high; long = length-take-le b H (omega arith) ∙ q },
-    length-take-le a g (omega arith) ∙ p,
-    length-take-le a step (omega arith) ∙ p,
-    record { high = s.high; long = length-take-le d w (omega arith) ∙ r },
-  )
+-- the same, of what the code asked by `?`
+pub sizes_asked : (bytes n g H step w : ℕ) {p q : Bool} {u v : Unit {0}} → p ≡ enough g H step w → Ok u ≡ checked Size p → q ≡ fits bytes n → Ok v ≡ checked Size q → Sizes n g H step w
+sizes_asked bytes n g H step w e a f b = sizes_true bytes n g H step w (sym e ∙ was_right _ _ a) (sym f ∙ was_right _ _ b)
+
+-- so the fronts that the code lends are there
+pub fronts : {n g H step w : ℕ} → Sizes n g H step w → (n ≤ g) × (n * n ≤ H) × (n ≤ step) × (room n ≤ w)
+fronts s = (omega (arith, s), omega (arith, s), omega (arith, s), omega (arith, s))
+
+-- the parts that are lent to the kernel
+pub parts : (n : ℕ) (g H step w : List Float) → Sizes n (length g) (length H) (length step) (length w)
+    → Square n (length (take (n * n) H)) × (length (take n g) ≡ n) × (length (take n step) ≡ n) × Roomy n (length (take (room n) w))
+parts n g H step w s = (
+  record { low = s.low; high = s.high; long = length-take-le (n * n) H (omega arith) },
+  length-take-le n g (omega arith),
+  length-take-le n step (omega arith),
+  record { high = s.high; long = length-take-le (room n) w (omega arith) },
+)
+
+-- ---- in room for the largest case the answer is the case's own
+
+pub answer_wide : (bytes : List ℕ) (g H step w : List Float) → length g ≡ 64 → length H ≡ 4096 → length step ≡ 64 → length w ≡ 8704 → answer_in bytes g H step w ≡ case_answer bytes
+unfolding answer_in
+answer_wide bytes g H step w a b c d = rw (a, b, c, d)
 
 -- ---- the three ends
 
@@ -89,12 +108,12 @@ module _ (bytes : List ℕ) (g H step w : List Float) where
   abbrev room_enough : Bool
   room_enough = enough (length g) (length H) (length step) (length w)
 
-  pub answered_narrow : room_enough ≡ false → Answered bytes (Refused Size) g g H H step step w w
+  pub answered_narrow : room_enough ≡ false → Answered bytes (Err Size) g g H H step step w w
   unfolding answer_in
   answered_narrow e = record { says = rw e; leaves = rw e; gradient = rw e; hessian = rw e; clears = rw e (sym (take-append-drop (room (size_of bytes)) w)) }
 
   module _ (e : room_enough ≡ true) where
-    pub answered_unfit : fits (length bytes) (size_of bytes) ≡ false → Answered bytes (Refused Size) g g H H step step w w
+    pub answered_unfit : fits (length bytes) (size_of bytes) ≡ false → Answered bytes (Err Size) g g H H step step w w
     unfolding answer_in case_answer
     answered_unfit f = record { says = rw (e, f); leaves = rw (e, f); gradient = rw (e, f); hessian = rw (e, f); clears = rw (e, f) (sym (take-append-drop (room (size_of bytes)) w)) }
 
@@ -109,7 +128,7 @@ module _ (bytes : List ℕ) (g H step w : List Float) where
       unfolding answer_in case_answer
       answer_whole = rw (e, f)
 
-      module _ (found : Stepped) (s w' : List Float) where
+      module _ (found : Result Stepped Refusal) (s w' : List Float) where
         says_one : (a : Answer Made) → Long n a → Took a found (take n step) s (take (room n) w) w' → told n found ≡ said a
         says_one (refused r) p t = ap (told n) t.says
         says_one (given m) p t = rw p (ap (told n) t.says)
@@ -131,9 +150,8 @@ module _ (bytes : List ℕ) (g H step w : List Float) where
             }
 
       -- the same, in the words of the code: m is what it read for the size
-      pub answered : (m a b d : ℕ) (r : Said) (found : Stepped) (g' H' s w' : List Float) → m ≡ size_of bytes → a ≡ m → b ≡ m * m → d ≡ room m → r ≡ told m found
-          → Took (run (choice_of bytes) m (radius_of bytes) (numbers bytes 5 m) (numbers bytes (5 + m) (m * m))) found (take a step) s (take d w) w'
+      pub answered : (m : ℕ) (found : Result Stepped Refusal) (g' H' s w' : List Float) → m ≡ size_of bytes
+          → Took (run (choice_of bytes) m (radius_of bytes) (numbers bytes 5 m) (numbers bytes (5 + m) (m * m))) found (take m step) s (take (room m) w) w'
           × (g' ≡ numbers bytes 5 m) × (H' ≡ numbers bytes (5 + m) (m * m))
-          → Answered bytes r g (g' ++ drop a g) H (H' ++ drop b H) step (s ++ drop a step) w (w' ++ drop d w)
-      answered m a b d r found g' H' s w' i p q o tells t =
-          rw (tells, p, q, o, i) (answered_whole found s w' g' H' (rw (p, o, i) at t.0) (rw i at t.1) (rw i at t.2))
+          → Answered bytes (told m found) g (g' ++ drop m g) H (H' ++ drop (m * m) H) step (s ++ drop m step) w (w' ++ drop (room m) w)
+      answered m found g' H' s w' i t = rw i (answered_whole found s w' g' H' (rw i at t.0) (rw i at t.1) (rw i at t.2))

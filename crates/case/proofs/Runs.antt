@@ -10,13 +10,15 @@ use Rattle.vectors.specs.Refusal.{all_hold, size, sized, room, Square, Roomy}
 use Rattle.kernels.specs.Kernel.{called, Took}
 use Rattle.kernels.specs.Choice.{asked, kernel}
 use Rattle.kernels.specs.declared.choice.Choice.{Choice}
+use Rattle.std.specs.Prelude.{Result}
+use Rattle.vectors.specs.declared.refusal.Refusal.{Refusal}
 use Rattle.kernels.specs.declared.kernel.Stepped.{Stepped}
 use Rattle.vectors.proofs.Vectors.{length_tab}
 use Rattle.vectors.proofs.Sizes.{size_test}
 use Rattle.case.specs.Case.{numbers, choice_of, radius_of, run}
 
 -- the sizes are right, so refusals 2 and 4 are left of its checks
-run_called : (c : Choice) (n : ℕ) (radius : Float) (g H step w : List Float) (r : Stepped) (step' w' : List Float)
+run_called : (c : Choice) (n : ℕ) (radius : Float) (g H step w : List Float) (r : Result Stepped Refusal) (step' w' : List Float)
     → Square n (length H) → length g ≡ n → length step ≡ n → Roomy n (length w)
     → Took (called (asked c) (kernel c) n radius g H step w) r step step' w w' → Took (run c n radius g H) r step step' w w'
 unfolding called run
@@ -29,7 +31,7 @@ unfolding numbers
 numbers_long bytes i k = length_tab k _
 
 -- of the case's own words, read into g' and H' of a and b numbers
-pub run_read : (bytes : List ℕ) (n a b : ℕ) (g' H' : List Float) (c : Choice) (radius : Float) (r : Stepped) (step step' w w' : List Float)
+pub run_read : (bytes : List ℕ) (n a b : ℕ) (g' H' : List Float) (c : Choice) (radius : Float) (r : Result Stepped Refusal) (step step' w w' : List Float)
     → Square n b × (a ≡ n) × (length step ≡ n) × Roomy n (length w)
     → g' ≡ numbers bytes 5 a → H' ≡ numbers bytes (5 + n) b → c ≡ choice_of bytes → radius ≡ radius_of bytes
     → Took (called (asked c) (kernel c) n radius g' H' step w) r step step' w w'

@@ -1,5 +1,5 @@
 -- "A program reads 8-byte little-endian words (kernel 1 to 3, n, radius, epsilon, limit, g, H)." Definitions only.
-use Rattle.std.specs.Prelude.{◌≡◌, Bool, cond, ◌&&◌, List, [], ◌∷◌, ◌++◌, ℕ, ◌+◌, ◌*◌, eqb, leb, length, take, drop, Float}
+use Rattle.std.specs.Prelude.{◌≡◌, Bool, cond, ◌&&◌, List, [], ◌∷◌, ◌++◌, Result, Ok, Err, ℕ, ◌+◌, ◌*◌, eqb, leb, length, take, drop, Float}
 use Rattle.std.proofs.Math.Bool.{not}
 use Rattle.std.specs.Float.{binary64}
 use Rattle.std.specs.Float.Ieee.{of_bits}
@@ -9,12 +9,10 @@ use Rattle.vectors.specs.Refusal.{Answer, refused, given, Check, ◌if◌, unles
 use Rattle.kernels.specs.Kernel.{Made, positive}
 use Rattle.kernels.specs.Choice as Chosen
 use Rattle.kernels.specs.Choice.{asked, kernel}
+use Rattle.vectors.specs.declared.refusal.Refusal.{Refusal}
 use Rattle.vectors.specs.declared.refusal.Refusal.TheVariants.{Size, Setting, Entry}
 use Rattle.kernels.specs.declared.choice.Choice.{Choice}
-use Rattle.kernels.specs.declared.kernel.Stepped.{Stepped}
-use Rattle.kernels.specs.declared.kernel.Stepped.TheVariants as stepped
-use Rattle.case.specs.declared.Said.{Said}
-use Rattle.case.specs.declared.Said.TheVariants.{Step, Refused}
+use Rattle.case.specs.declared.Step.{Step}
 
 -- ---- the words of an input
 
@@ -87,14 +85,9 @@ module _ (bytes : List ℕ) (g H step scratch : List Float) where
   was_read = enough (length g) (length H) (length step) (length scratch) && fits (length bytes) (size_of bytes)
 
 -- "The words on line one are size and passes"
-abbrev pub said : Answer Made → Said
-said (refused r) = Refused r
-said (given m) = Step (length m.step) m.passes
-
--- the same of a kernel's own answer, for a step of n numbers
-abbrev pub told : ℕ → Stepped → Said
-told n (stepped.In k norm) = Step n k
-told n (stepped.Refused r) = Refused r
+abbrev pub said : Answer Made → Result Step Refusal
+said (refused r) = Err r
+said (given m) = Ok (record { size = length m.step; passes = m.passes })
 
 -- v at the front of a longer list
 abbrev pub in_front : (v old : List Float) → List Float
@@ -102,7 +95,7 @@ in_front v old = v ++ drop (length v) old
 
 -- The step stands at the front of its room. The rest is what a case leaves in room that is the function's to use: g and H at the front of theirs, once they
 -- are read, and the front of the scratch as a kernel leaves it.
-pub record Answered (bytes : List ℕ) (r : Said) (g g' H H' step step' scratch scratch' : List Float) : Type 0 where
+pub record Answered (bytes : List ℕ) (r : Result Step Refusal) (g g' H H' step step' scratch scratch' : List Float) : Type 0 where
   pub says : r ≡ said (answer_in bytes g H step scratch)
   pub leaves : step' ≡ left_in (λ m. in_front m.step step) (answer_in bytes g H step scratch) step
   pub gradient : g' ≡ cond (was_read bytes g H step scratch) (in_front (gradient_of bytes) g) g

@@ -5,60 +5,89 @@
 pub mod lines;
 
 ghost use Rattle.std.specs.Prelude.{◌≡◌, ◌+◌, ◌*◌, ◌≤◌, length};
+ghost use Rattle.vectors.specs.Vector.{zeros};
 ghost use Rattle.vectors.specs.Refusal.{Square, Roomy};
 ghost use Rattle.kernels.specs.Kernel.{Took};
 ghost use Rattle.case.specs.Case as Case;
-ghost use Rattle.case.specs.Case.{numbers, choice_of, radius_of, Answered};
+ghost use Rattle.case.specs.Case.{numbers, choice_of, radius_of, case_answer, said, Answered};
 
 use kernels::choice;
 use kernels::choice::Choice;
 use kernels::kernel::Stepped;
+use vectors::refusal;
 use vectors::refusal::Refusal;
 
-// The size of a step and its passes, or why there is none.
-#[derive(Clone, Copy)]
-pub enum Said {
-    Step(usize, u64),
-    Refused(Refusal),
+// What is said of a case's step, beside its numbers.
+#[derive(Clone, Copy, Debug, PartialEq, Eq)]
+pub struct Step {
+    pub size: usize,
+    pub passes: u64,
 }
 
-// The answer to a case. The step is left at the front of `step`. The other lists are room to work in.
+// The answer to a case, or why there is none. The step is left at the front of `step`. The other lists are
+// room to work in.
 pub fn answer(
     bytes: &[u8],
     gradient: &mut [f64],
     hessian: &mut [f64],
     step: &mut [f64],
     scratch: &mut [f64],
-) -> Said
+) -> Result<Step, Refusal>
     ensures { Answered bytes.now result gradient.old gradient.new hessian.old hessian.new
         step.old step.new scratch.old scratch.new }
 {
-    if !enough(gradient.len(), hessian.len(), step.len(), scratch.len()) {
-        return Said::Refused(Refusal::Size);
-    }
+    Refusal::Size.unless(enough(gradient.len(), hessian.len(), step.len(), scratch.len()))?;
     let n = word(bytes, 1) as usize;
-    if !fits(bytes.len(), n) {
-        return Said::Refused(Refusal::Size);
-    }
+    Refusal::Size.unless(fits(bytes.len(), n))?;
     let square = n * n;
-    let room = 2 * square + 8 * n;
-    let found = solve(
+    let made = solve(
         bytes,
         n,
-        &mut gradient[0..n],
-        &mut hessian[0..square],
-        &mut step[0..n],
-        &mut scratch[0..room],
-    );
-    told(n, found)
+        &mut gradient[..n],
+        &mut hessian[..square],
+        &mut step[..n],
+        &mut scratch[..2 * square + 8 * n],
+    )?;
+    Ok(Step {
+        size: n,
+        passes: made.passes,
+    })
 }
 
-fn told(n: usize, found: Stepped) -> Said
-    ensures { result ≡ Case.told n found }
-{
-    match found {
-        Stepped::In(passes, _) => Said::Step(n, passes),
-        Stepped::Refused(r) => Said::Refused(r),
+// Lists as long as the largest case takes.
+#[derive(Drop)]
+pub struct Workspace {
+    pub gradient: [f64; 64],
+    pub hessian: [f64; 4096],
+    pub step: [f64; 64],
+    pub scratch: [f64; 8704],
+}
+
+impl Workspace {
+    pub fn new() -> Self
+        ensures { (result.gradient ≡ zeros 64) × (result.hessian ≡ zeros 4096) × (result.step ≡ zeros 64) × (result.scratch ≡ zeros 8704) }
+    {
+        Workspace {
+            gradient: [0.0; 64],
+            hessian: [0.0; 4096],
+            step: [0.0; 64],
+            scratch: [0.0; 8704],
+        }
+    }
+
+    // The answer to a case, whose step is left at the front of `step`: here no case lacks room.
+    pub fn answer(&mut self, bytes: &[u8]) -> Result<Step, Refusal>
+        ensures says { result ≡ said (case_answer bytes.now) }
+        ensures leaves { Answered bytes.now result self.old.gradient self.new.gradient self.old.hessian self.new.hessian
+            self.old.step self.new.step self.old.scratch self.new.scratch }
+    {
+        answer(
+            bytes,
+            &mut self.gradient,
+            &mut self.hessian,
+            &mut self.step,
+            &mut self.scratch,
+        )
     }
 }
 
@@ -66,16 +95,7 @@ fn told(n: usize, found: Stepped) -> Said
 fn enough(gradient: usize, hessian: usize, step: usize, scratch: usize) -> bool
     ensures { result ≡ Case.enough gradient hessian step scratch }
 {
-    if gradient < 64 {
-        return false;
-    }
-    if hessian < 4096 {
-        return false;
-    }
-    if step < 64 {
-        return false;
-    }
-    8704 <= scratch
+    64 <= gradient && 4096 <= hessian && 64 <= step && 8704 <= scratch
 }
 
 // Whether so many bytes are the words of a case of size n.
@@ -83,13 +103,7 @@ fn enough(gradient: usize, hessian: usize, step: usize, scratch: usize) -> bool
 fn fits(bytes: usize, n: usize) -> bool
     ensures { result ≡ Case.fits bytes n }
 {
-    if n < 1 {
-        return false;
-    }
-    if 64 < n {
-        return false;
-    }
-    bytes == 8 * (5 + n + n * n)
+    refusal::size(n) && bytes == 8 * (5 + n + n * n)
 }
 
 // Reads g and H, and runs the kernel on them: its own checks are those of a direct caller.
@@ -100,7 +114,7 @@ fn solve(
     hessian: &mut [f64],
     step: &mut [f64],
     scratch: &mut [f64],
-) -> Stepped
+) -> Result<Stepped, Refusal>
     requires { Square n (length hessian.old) × (length gradient.old ≡ n) × (length step.old ≡ n) × Roomy n (length scratch.old) }
     ensures { Took (Case.run (choice_of bytes.now) n (radius_of bytes.now)
         (numbers bytes.now 5 n) (numbers bytes.now (5 + n) (n * n)))
@@ -119,10 +133,8 @@ fn fill(bytes: &[u8], from: usize, out: &mut [f64])
     requires { (from ≤ 69) × (length out.old ≤ 4096) }
     ensures { out.new ≡ numbers bytes.now from (length out.old) }
 {
-    let mut i = 0;
-    while i < out.len() {
-        out[i] = number(bytes, from + i);
-        i += 1;
+    for (i, x) in out.iter_mut().enumerate() {
+        *x = number(bytes, from + i);
     }
 }
 

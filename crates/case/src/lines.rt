@@ -5,51 +5,45 @@ ghost use Rattle.stream.specs.Pieces.{Puts};
 ghost use Rattle.case.specs.Lines.{number_lines, step_line};
 ghost use Rattle.case.specs.Lines as Lines;
 
-use crate::Said;
-use stream::Output;
+use crate::Step;
+use stream::Page;
+use vectors::refusal::Refusal;
 
 // Puts the lines of an answer on a page; the step stands at the front of `step`.
-pub fn put(page: &mut [u8], output: Output, said: Said, step: &[f64]) -> Output
-    ensures { Puts (Lines.lines said step.now) page.old output.at page.new result.at }
+pub fn put(page: &mut Page<'_>, said: Result<Step, Refusal>, step: &[f64])
+    ensures { Puts (Lines.lines said step.now) page.old page.new }
 {
     match said {
-        Said::Step(n, passes) => {
-            let head = step_line(page, output, n as u64, passes);
-            numbers(page, head, first(step, n))
+        Ok(found) => {
+            step_line(page, found);
+            numbers(page, first(step, found.size));
         }
-        Said::Refused(r) => stream::put_refused(page, output, vectors::refusal::number(r)),
+        Err(r) => page.put_refused(u64::from(r)),
     }
 }
 
-fn step_line(page: &mut [u8], output: Output, n: u64, passes: u64) -> Output
-    ensures { Puts (step_line n passes) page.old output.at page.new result.at }
+fn step_line(page: &mut Page<'_>, found: Step)
+    ensures { Puts (step_line found.size found.passes) page.old page.new }
 {
-    let said = stream::put_text(page, output, b"step ");
-    let size = stream::put_whole(page, said, n);
-    let blank = stream::put_blank(page, size);
-    let put = stream::put_whole(page, blank, passes);
-    stream::put_line_end(page, put)
+    page.put_text(b"step ");
+    page.put_whole(found.size as u64);
+    page.put_blank();
+    page.put_whole(found.passes);
+    page.put_line_end();
 }
 
-fn numbers(page: &mut [u8], output: Output, v: &[f64]) -> Output
-    ensures { Puts (number_lines v.now) page.old output.at page.new result.at }
+fn numbers(page: &mut Page<'_>, v: &[f64])
+    ensures { Puts (number_lines v.now) page.old page.new }
 {
-    let mut put = output;
-    let mut i = 0;
-    while i < v.len() {
-        let number = stream::put_number(page, put, v[i]);
-        put = stream::put_line_end(page, number);
-        i += 1;
+    for x in v {
+        page.put_number(*x);
+        page.put_line_end();
     }
-    put
 }
 
 // The first n numbers of v, or all that there are.
 fn first(v: &[f64], n: usize) -> &[f64]
     ensures { result.now ≡ take n v.now }
 {
-    if n < v.len() {
-        return &v[..n];
-    }
-    v
+    v.get(..n).unwrap_or(v)
 }

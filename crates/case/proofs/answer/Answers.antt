@@ -1,69 +1,62 @@
 -- `case::answer` meets its contract. Assumes nothing.
-use mathlib.Core.Path.{◌≡◌}
-use native.Mathlib.Nat.{sub-zero}
-use native.Mathlib.Omega.{arith}
+use mathlib.Core.Path.{sym, ◌∙◌}
 use lib.ListN.{length}
-use Rattle.vectors.proofs.Sizes.{failed, passed}
-use Rattle.case.specs.Case.{fits, size_of}
-use Rattle.case.proofs.Answers.{Sizes, sizes_true, parts, answered_narrow, answered_unfit, answered}
+use lib.Seq.{length-take-le}
+use Rattle.std.proofs.lemmas.Result.{err_from_is_err_and}
+use Rattle.vectors.proofs.Sizes.{was_right}
+use Rattle.kernels.proofs.Kernels.{was_wrong}
+use Rattle.case.proofs.Answers.{sizes_asked, fronts, parts, answered_narrow, answered_unfit, answered}
 use Rattle.case.proofs.answer.Goals as goal
 
-pub returns-then-not-enough : goal.returns-then-not-enough
-returns-then-not-enough c = answered_narrow _ _ _ _ _ (failed c.enough.ensures c.if-not-enough.true)
+pub returns-in_err-unless : goal.returns-in_err-unless
+returns-in_err-unless c =
+    let p = err_from_is_err_and c.from_residual.result c.from_residual.ensures.1 in
+    let q = was_wrong _ _ _ c.in_err-unless.ensures in
+    rw (p.1, p.2, q.1) (answered_narrow _ _ _ _ _ (sym c.enough.ensures ∙ q.0))
 
-pub returns-then-not-fits : goal.returns-then-not-fits
-returns-then-not-fits c =
-    let test : let bytes = c.args.bytes.now in c.fits.result ≡ fits (length bytes) (size_of bytes) = rw c.word-n.ensures at c.fits.ensures in
-    answered_unfit _ _ _ _ _ (passed c.enough.ensures c.if-not-enough.false) (failed test c.if-not-fits.true)
-
-pub overflow_mul-square : goal.overflow_mul-square
-overflow_mul-square c =
-    let sizes : let a = c.args in Sizes c.word-n.result (length a.gradient.now) (length a.hessian.now) (length a.step.now) (length a.scratch.now) = sizes_true _ _ _ _ _ _ (passed c.enough.ensures c.if-not-enough.false) (passed c.fits.ensures c.if-not-fits.false) in
-    omega (arith, sizes)
-
-pub overflow_mul-room : goal.overflow_mul-room
-overflow_mul-room c =
-    let sizes : let a = c.args in Sizes c.word-n.result (length a.gradient.now) (length a.hessian.now) (length a.step.now) (length a.scratch.now) = sizes_true _ _ _ _ _ _ (passed c.enough.ensures c.if-not-enough.false) (passed c.fits.ensures c.if-not-fits.false) in
-    omega (arith, sizes)
-
-pub overflow_mul-room-2 : goal.overflow_mul-room-2
-overflow_mul-room-2 c =
-    let sizes : let a = c.args in Sizes c.word-n.result (length a.gradient.now) (length a.hessian.now) (length a.step.now) (length a.scratch.now) = sizes_true _ _ _ _ _ _ (passed c.enough.ensures c.if-not-enough.false) (passed c.fits.ensures c.if-not-fits.false) in
-    omega (arith, sizes)
-
-pub overflow_add-room : goal.overflow_add-room
-overflow_add-room c =
-    let sizes : let a = c.args in Sizes c.word-n.result (length a.gradient.now) (length a.hessian.now) (length a.step.now) (length a.scratch.now) = sizes_true _ _ _ _ _ _ (passed c.enough.ensures c.if-not-enough.false) (passed c.fits.ensures c.if-not-fits.false) in
-    omega (arith, sizes)
+pub returns-in_err-unless-2 : goal.returns-in_err-unless-2
+returns-in_err-unless-2 c =
+    let p = err_from_is_err_and c.from_residual-in_err-unless-2.result c.from_residual-in_err-unless-2.ensures.1 in
+    let q = was_wrong _ _ _ c.in_err-unless-2.ensures in
+    rw (p.1, p.2, q.1) (answered_unfit _ _ _ _ _ (sym c.enough.ensures ∙ was_right _ _ c.in_ok-unless.ensures) (rw c.word-n.ensures at (sym c.fits.ensures ∙ q.0)))
 
 pub slice_bounds-solve-end : goal.slice_bounds-solve-end
-slice_bounds-solve-end c =
-    let sizes : let a = c.args in Sizes c.word-n.result (length a.gradient.now) (length a.hessian.now) (length a.step.now) (length a.scratch.now) = sizes_true _ _ _ _ _ _ (passed c.enough.ensures c.if-not-enough.false) (passed c.fits.ensures c.if-not-fits.false) in
-    omega (arith, sizes)
+slice_bounds-solve-end c = let a = c.args in (fronts (sizes_asked _ _ (length a.gradient.now) (length a.hessian.now) (length a.step.now) (length a.scratch.now) c.enough.ensures c.in_ok-unless.ensures c.fits.ensures c.in_ok-unless-2.ensures)).0
 
 pub slice_bounds-solve-end-2 : goal.slice_bounds-solve-end-2
-slice_bounds-solve-end-2 c =
-    let sizes : let a = c.args in Sizes c.word-n.result (length a.gradient.now) (length a.hessian.now) (length a.step.now) (length a.scratch.now) = sizes_true _ _ _ _ _ _ (passed c.enough.ensures c.if-not-enough.false) (passed c.fits.ensures c.if-not-fits.false) in
-    omega (arith, sizes)
+slice_bounds-solve-end-2 c = let a = c.args in sym (length-take-le _ _ (fronts (sizes_asked _ _ (length a.gradient.now) (length a.hessian.now) (length a.step.now) (length a.scratch.now) c.enough.ensures c.in_ok-unless.ensures c.fits.ensures c.in_ok-unless-2.ensures)).0)
 
 pub slice_bounds-solve-end-3 : goal.slice_bounds-solve-end-3
-slice_bounds-solve-end-3 c =
-    let sizes : let a = c.args in Sizes c.word-n.result (length a.gradient.now) (length a.hessian.now) (length a.step.now) (length a.scratch.now) = sizes_true _ _ _ _ _ _ (passed c.enough.ensures c.if-not-enough.false) (passed c.fits.ensures c.if-not-fits.false) in
-    omega (arith, sizes)
+slice_bounds-solve-end-3 c = let a = c.args in (fronts (sizes_asked _ _ (length a.gradient.now) (length a.hessian.now) (length a.step.now) (length a.scratch.now) c.enough.ensures c.in_ok-unless.ensures c.fits.ensures c.in_ok-unless-2.ensures)).1
 
 pub slice_bounds-solve-end-4 : goal.slice_bounds-solve-end-4
-slice_bounds-solve-end-4 c =
-    let sizes : let a = c.args in Sizes c.word-n.result (length a.gradient.now) (length a.hessian.now) (length a.step.now) (length a.scratch.now) = sizes_true _ _ _ _ _ _ (passed c.enough.ensures c.if-not-enough.false) (passed c.fits.ensures c.if-not-fits.false) in
-    omega (arith, sizes)
+slice_bounds-solve-end-4 c = let a = c.args in sym (length-take-le _ _ (fronts (sizes_asked _ _ (length a.gradient.now) (length a.hessian.now) (length a.step.now) (length a.scratch.now) c.enough.ensures c.in_ok-unless.ensures c.fits.ensures c.in_ok-unless-2.ensures)).1)
 
-pub solve-found-requires : goal.solve-found-requires
-solve-found-requires c =
-    let sizes : let a = c.args in Sizes c.word-n.result (length a.gradient.now) (length a.hessian.now) (length a.step.now) (length a.scratch.now) = sizes_true _ _ _ _ _ _ (passed c.enough.ensures c.if-not-enough.false) (passed c.fits.ensures c.if-not-fits.false) in
+pub slice_bounds-solve-end-5 : goal.slice_bounds-solve-end-5
+slice_bounds-solve-end-5 c = let a = c.args in (fronts (sizes_asked _ _ (length a.gradient.now) (length a.hessian.now) (length a.step.now) (length a.scratch.now) c.enough.ensures c.in_ok-unless.ensures c.fits.ensures c.in_ok-unless-2.ensures)).2
+
+pub slice_bounds-solve-end-6 : goal.slice_bounds-solve-end-6
+slice_bounds-solve-end-6 c = let a = c.args in sym (length-take-le _ _ (fronts (sizes_asked _ _ (length a.gradient.now) (length a.hessian.now) (length a.step.now) (length a.scratch.now) c.enough.ensures c.in_ok-unless.ensures c.fits.ensures c.in_ok-unless-2.ensures)).2)
+
+pub slice_bounds-solve-end-7 : goal.slice_bounds-solve-end-7
+slice_bounds-solve-end-7 c = let a = c.args in (fronts (sizes_asked _ _ (length a.gradient.now) (length a.hessian.now) (length a.step.now) (length a.scratch.now) c.enough.ensures c.in_ok-unless.ensures c.fits.ensures c.in_ok-unless-2.ensures)).3
+
+pub slice_bounds-solve-end-8 : goal.slice_bounds-solve-end-8
+slice_bounds-solve-end-8 c = let a = c.args in sym (length-take-le _ _ (fronts (sizes_asked _ _ (length a.gradient.now) (length a.hessian.now) (length a.step.now) (length a.scratch.now) c.enough.ensures c.in_ok-unless.ensures c.fits.ensures c.in_ok-unless-2.ensures)).3)
+
+pub solve-requires : goal.solve-requires
+solve-requires c =
+    let s = sizes_asked _ _ _ _ _ _ c.enough.ensures c.in_ok-unless.ensures c.fits.ensures c.in_ok-unless-2.ensures in
     let a = c.args in
-    parts _ _ _ _ a.gradient.now a.hessian.now a.step.now a.scratch.now (sub-zero _) (sub-zero _) (sub-zero _) sizes
+    parts _ a.gradient.now a.hessian.now a.step.now a.scratch.now s
+
+pub returns-in_err-made : goal.returns-in_err-made
+returns-in_err-made c =
+    let p = err_from_is_err_and c.from_residual-in_err-made.result c.from_residual-in_err-made.ensures.1 in
+    let fit = rw c.word-n.ensures at (sym c.fits.ensures ∙ was_right _ _ c.in_ok-unless-2.ensures) in
+    rw (p.1, p.2) (answered _ _ _ _ _ (sym c.enough.ensures ∙ was_right _ _ c.in_ok-unless.ensures) fit _ _ _ _ _ _ c.word-n.ensures c.in_err-made.ensures)
 
 pub returns : goal.returns
 returns c =
-    let test : let bytes = c.args.bytes.now in c.fits.result ≡ fits (length bytes) (size_of bytes) = rw c.word-n.ensures at c.fits.ensures in
-    answered _ _ _ _ _ (passed c.enough.ensures c.if-not-enough.false) (passed test c.if-not-fits.false)
-    _ _ _ _ _ _ _ _ _ _ c.word-n.ensures (sub-zero _) (sub-zero _) (sub-zero _) c.told.ensures c.solve-found.ensures
+    let fit = rw c.word-n.ensures at (sym c.fits.ensures ∙ was_right _ _ c.in_ok-unless-2.ensures) in
+    answered _ _ _ _ _ (sym c.enough.ensures ∙ was_right _ _ c.in_ok-unless.ensures) fit _ _ _ _ _ _ c.word-n.ensures c.in_ok-made.ensures

@@ -1,16 +1,13 @@
 -- `case::fill` meets its contract. The loop's invariant: the first i numbers are read. Assumes nothing.
-use mathlib.Core.Path.{refl}
-use borrow.Author.Rules.{rules}
+use Rattle.std.proofs.Common.{refl, rules}
 use Rattle.vectors.proofs.Slots.{filling_none, filling_more, filling_done}
 use Rattle.case.specs.Case.{numbers}
 use Rattle.case.proofs.fill.Goals as goal
 
 pub loop-i-init : goal.loop-i-init
-unfolding numbers
 loop-i-init c = filling_none refl
 
 pub loop-i-preserved : goal.loop-i-preserved
-unfolding numbers
 loop-i-preserved c = filling_more c.loop-i.invariant (search rules) c.number.ensures
 
 pub returns : goal.returns
