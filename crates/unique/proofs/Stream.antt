@@ -30,7 +30,7 @@ not_above {k} {l} h = omega (arith, lt_of_not-le {n = suc l} {m = k} h)
 count : {n k l : ℕ} → IsDigitCount 10 1 n k → IsDigitCount 10 1 n l → k ≡ l
 count p q = le_antisymm (not_above (no_fewer q p)) (not_above (no_fewer p q))
 
-input : {i j : Input} → i.room ≡ j.room → i.at ≡ j.at → i.end ≡ j.end → i ≡ j
+pub input : {i j : Input} → i.room ≡ j.room → i.at ≡ j.at → i.end ≡ j.end → i ≡ j
 input e f g = λ k. record { room = e k; at = f k; end = g k }
 
 -- two puts on the same page leave the same
