@@ -170,7 +170,7 @@ fn sr1_settings(words: &[u64]) -> sr1::settings::Settings
     wholes(words).sr1(places::number(words, 7), &numbers)
 }
 
-// Words that make a start: no more further settings are told than there are, and n is a session's.
+// Words that make a start: at most three further settings are told, and n is at most 64.
 #[derive(Clone, Copy)]
 struct Whole<'a> {
     words: &'a [u64],
