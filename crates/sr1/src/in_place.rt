@@ -1,15 +1,15 @@
 // SR1TrustRegion (Nocedal and Wright, Numerical Optimization, section 6.2, algorithm 6.2): its calls on a session that is lent, to
 // be changed in place, in the order of argmin's steps. Nothing is written before the last refusal is decided.
-ghost use Rattle.std.specs.Prelude.{◌≡◌, true, ◌+◌, ◌*◌, ◌≤◌, ◌<◌, length};
-ghost use Rattle.float.specs.Numbers.{◌⊕◌, ◌⊗◌};
+ghost use Rattle.std.specs.Prelude.{◌≡◌, true, ◌≤◌, length};
 ghost use Rattle.vectors.specs.Vector.{zeros, all_finite};
 ghost use Rattle.vectors.specs.Slots.{Puts};
 ghost use Rattle.vectors.specs.Refusal.{judged, all_hold, Square};
 ghost use Rattle.sr1.specs.Settings.{chosen};
 ghost use Rattle.sr1.specs.Session as Definition;
-ghost use Rattle.sr1.specs.Session.{proposal, residual, ported_rule, book_rule, gained_row, gained, updated_by, updated, next_radius, answer_entries, judgement_checks, judgement};
+ghost use Rattle.sr1.specs.Session.{proposal, residual, ported_rule, book_rule, updated_by, updated, next_radius, answer_entries, judgement_checks, judgement};
 ghost use Rattle.sr1.specs.Calls.{Proposes, Updates, Judges};
 
+use crate::gain::Gain;
 use crate::session::Session;
 use crate::settings::Settings;
 use offer::state::{Phase, Promise, Said};
@@ -141,63 +141,6 @@ fn updates(settings: Settings, norm: f64, z: &[f64], q: f64) -> bool
     book_rule(settings.factor, norm, vector::norm_any(z), q)
 }
 
-// What an entry of the Hessian becomes, where a is z_i, b is z_j and share is 1/q.
-fn entry(x: f64, a: f64, b: f64, share: f64) -> f64
-    ensures { result ≡ x ⊕ a ⊗ b ⊗ share }
-{
-    x + a * b * share
-}
-
-// Whether each entry of row i will be finite. The loop runs to the end of the row whatever it meets, so that the machine can
-// take several entries at a time.
-fn row_finite(n: usize, z: &[f64], share: f64, hessian: &[f64], i: usize) -> bool
-    requires { (i * n + n ≤ length hessian.now) × (length z.now ≡ n) × (i < n) }
-    ensures { result ≡ all_finite (gained_row n hessian.now z.now share i) }
-{
-    let start = i * n;
-    let a = z[i];
-    let mut all = true;
-    for j in 0..n {
-        all &= float::finite(entry(hessian[start + j], a, z[j], share));
-    }
-    all
-}
-
-// Whether each entry will be finite.
-fn rows_finite(n: usize, z: &[f64], share: f64, hessian: &[f64]) -> bool
-    requires { Square n (length hessian.now) × (length z.now ≡ n) }
-    ensures { result ≡ all_finite (gained n hessian.now z.now share) }
-{
-    for i in 0..n {
-        if !row_finite(n, z, share, hessian, i) {
-            return false;
-        }
-    }
-    true
-}
-
-// Row i takes its new entries.
-fn write_row(n: usize, z: &[f64], share: f64, hessian: &mut [f64], i: usize)
-    requires { (i * n + n ≤ length hessian.old) × (length z.now ≡ n) × (i < n) }
-    ensures { Puts hessian.old n i (gained_row n hessian.old z.now share i) hessian.new }
-{
-    let start = i * n;
-    let a = z[i];
-    for j in 0..n {
-        hessian[start + j] = entry(hessian[start + j], a, z[j], share);
-    }
-}
-
-// Every row does.
-fn write_rows(n: usize, z: &[f64], share: f64, hessian: &mut [f64])
-    requires { Square n (length hessian.old) × (length z.now ≡ n) }
-    ensures { hessian.new ≡ gained n hessian.old z.now share }
-{
-    for i in 0..n {
-        write_row(n, z, share, hessian, i);
-    }
-}
-
 // The Hessian is updated, unless an entry of it would not be finite. Every entry is tested before one is
 // written: there is no room for a second matrix.
 fn update(
@@ -215,9 +158,13 @@ fn update(
     if !updates(settings, norm, z, q) {
         return Ok(());
     }
-    let share = 1.0 / q;
-    Refusal::Range.unless(rows_finite(n, z, share, hessian))?;
-    write_rows(n, z, share, hessian);
+    let gain = Gain {
+        n,
+        z,
+        share: 1.0 / q,
+    };
+    Refusal::Range.unless(gain.rows_finite(hessian))?;
+    gain.write_rows(hessian);
     Ok(())
 }
 

@@ -2,6 +2,7 @@
 // and updates the Hessian.
 #![tactic(auto)]
 
+mod gain;
 pub mod in_place;
 pub mod session;
 pub mod settings;

@@ -1,11 +1,11 @@
--- `sr1::in_place::rows_finite` meets its contract. The loop's invariant: the first i rows will be finite. Assumes nothing.
+-- `sr1::gain::Gain::rows_finite` meets its contract. The loop's invariant: the first i rows will be finite. Assumes nothing.
 use mathlib.Core.Path.{◌≡◌, sym}
 use native.Mathlib.Numerals.{add-one}
 use native.Mathlib.Omega.{arith}
 use Rattle.vectors.proofs.Sizes.{failed, passed}
 use Rattle.sr1.specs.Session.{gained}
 use Rattle.sr1.proofs.Hessians.{rows_none, rows_more, rows_bad}
-use Rattle.sr1.proofs.in_place.rows_finite.Goals as goal
+use Rattle.sr1.proofs.gain.Gain.rows_finite.Goals as goal
 
 pub loop-i-init : goal.loop-i-init
 loop-i-init c = rows_none _
@@ -20,5 +20,5 @@ loop-i-preserved c = rw add-one (rows_more _ _ c.loop-i.invariant (passed c.row_
 pub returns : goal.returns
 unfolding gained
 returns c =
-    let all : c.loop-i.i ≡ c.args.n = omega arith in
+    let all : c.loop-i.i ≡ c.args.self.now.n = omega arith in
     sym (rw all at c.loop-i.invariant)

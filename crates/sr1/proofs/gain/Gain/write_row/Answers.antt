@@ -1,9 +1,9 @@
--- `sr1::in_place::write_row` meets its contract. The loop's invariant: the first j entries are the new ones. Assumes nothing.
+-- `sr1::gain::Gain::write_row` meets its contract. The loop's invariant: the first j entries are the new ones. Assumes nothing.
 use mathlib.Core.Path.{◌∙◌}
 use borrow.Author.Rules.{rules}
 use Rattle.vectors.proofs.Slots.{writing_none, writing_read, writing_more, writing_done}
 use Rattle.sr1.specs.Session.{gained_row}
-use Rattle.sr1.proofs.in_place.write_row.Goals as goal
+use Rattle.sr1.proofs.gain.Gain.write_row.Goals as goal
 
 pub loop-j-init : goal.loop-j-init
 unfolding gained_row
