@@ -17,7 +17,7 @@ use Rattle.float.specs.Constants.{nought}
 use Rattle.float.specs.Numbers.{finite}
 use Rattle.vectors.specs.Vector.{tab, zeros, all_finite, norm}
 use Rattle.vectors.specs.Slots.{slot}
-use Rattle.vectors.specs.Refusal.{Answer, refused, given, Check, ◌if◌, unless, judged, checked, then, all_hold, untouched_by, size, sized, room}
+use Rattle.vectors.specs.Refusal.{Answer, refused, given, Check, ◌if◌, unless, judged, checked, then, all_hold, untouched_by, size, sized, room, Square, Roomy}
 use Rattle.kernels.specs.Kernel.{Kernel, Made, made, handed_out, sound_step, positive, Proper, stepped, Laid, Where_made, Reached, handed_over, Took, Lent, called}
 use Rattle.vectors.specs.declared.refusal.Refusal.{Refusal}
 use Rattle.vectors.specs.declared.refusal.Refusal.TheVariants.{Size, Setting, Entry, Range}
@@ -87,6 +87,10 @@ lent_true n h g step scratch e =
 pub lent_right : (n h g step scratch : ℕ) (r : Result (Unit {0}) Refusal) → r ≡ checked Size (all_hold (size n ∷ eqb h (n * n) ∷ eqb g n ∷ eqb step n ∷ eqb scratch (room n) ∷ [])) → OnOk r (Lent n h g step scratch)
 lent_right n h g step scratch (Ok u) e = lent_true n h g step scratch (was_right Size (all_hold (size n ∷ eqb h (n * n) ∷ eqb g n ∷ eqb step n ∷ eqb scratch (room n) ∷ [])) e)
 lent_right n h g step scratch (Err r) e = tt
+
+-- the same from what a subproblem says of itself
+pub sized_by : {n h g s scratch : ℕ} → Square n h → g ≡ n → (s ≡ n) × Roomy n scratch → Lent n h g s scratch
+sized_by a b c = record { square = a; gradient = b; step = c.0; roomy = c.1 }
 
 -- what `hand_over` asks of it
 pub over_ready : {n h g s scratch : ℕ} (scratch' : ℕ) → Lent n h g s scratch → scratch' ≡ scratch → (s ≡ n) × (n ≤ scratch')

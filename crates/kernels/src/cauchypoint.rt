@@ -9,7 +9,7 @@ ghost use Rattle.kernels.specs.CauchyPoint as CauchyPoint;
 use crate::choice::Kernel;
 use crate::kernel::Stepped;
 use crate::subproblem::Subproblem;
-use crate::{choice, kernel, workspace};
+use crate::{kernel, workspace};
 use vectors::refusal::Refusal;
 use vectors::vector;
 
@@ -71,13 +71,5 @@ pub fn cauchy_point(
     ensures { Took (called true CauchyPoint.cauchy_point n radius gradient.now hessian.now step.old scratch.old)
         result step.old step.new scratch.old scratch.new }
 {
-    choice::call(
-        Kernel::CauchyPoint,
-        n,
-        radius,
-        gradient,
-        hessian,
-        step,
-        scratch,
-    )
+    Kernel::CauchyPoint.call(n, radius, gradient, hessian, step, scratch)
 }

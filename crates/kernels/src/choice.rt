@@ -1,7 +1,7 @@
 // A kernel's choice: one inner door for both sessions, and the way that every direct caller goes.
 ghost use Rattle.std.specs.Prelude.{◌≡◌, ◌&&◌, length};
 ghost use Rattle.vectors.specs.Refusal.{Roomy};
-ghost use Rattle.kernels.specs.Kernel.{positive, Lent, Laid, Reached, Took, called};
+ghost use Rattle.kernels.specs.Kernel.{positive, Laid, Reached, Took, called};
 ghost use Rattle.kernels.specs.Subproblem.{on};
 ghost use Rattle.kernels.specs.Choice as Definition;
 ghost use Rattle.kernels.specs.Choice.{by_default, choice_of, choosing, in_range, door, kernel_of, bounds_of, Names};
@@ -135,6 +135,46 @@ impl Kernel {
         }
         found
     }
+
+    // For a direct caller whose lists have the right lengths: refusals 2 and 4 before the kernel, and the copy after it.
+    fn call_sized(
+        self,
+        problem: &Subproblem,
+        step: &mut [f64],
+        scratch: &mut [f64],
+    ) -> Result<Stepped, Refusal>
+        requires { (length step.old ≡ problem.now.n) × Roomy problem.now.n (length scratch.old) }
+        ensures { Took (called (bounds_of self) (kernel_of self) problem.now.n problem.now.radius problem.now.gradient.now problem.now.hessian.now step.old scratch.old)
+            result step.old step.new scratch.old scratch.new }
+    {
+        Refusal::Setting.unless(self.settings_right(problem.radius))?;
+        Refusal::Entry.unless(vector::both_finite(problem.gradient, problem.hessian))?;
+        let found = self.lay(problem, scratch);
+        kernel::hand_over(problem.n, found, step, scratch)
+    }
+
+    // The same for any lists: refusal 1 comes first.
+    pub(crate) fn call(
+        self,
+        n: usize,
+        radius: f64,
+        gradient: &[f64],
+        hessian: &[f64],
+        step: &mut [f64],
+        scratch: &mut [f64],
+    ) -> Result<Stepped, Refusal>
+        ensures { Took (called (bounds_of self) (kernel_of self) n radius gradient.now hessian.now step.old scratch.old)
+            result step.old step.new scratch.old scratch.new }
+    {
+        kernel::lent(n, hessian.len(), gradient.len(), step.len(), scratch.len())?;
+        let problem = Subproblem {
+            n,
+            radius,
+            gradient,
+            hessian,
+        };
+        self.call_sized(&problem, step, scratch)
+    }
 }
 
 // The sessions' door, for callers that have looked. Asked here is what no kernel can run without: n, the lengths, and the
@@ -163,49 +203,6 @@ pub fn lay_unchecked(
     kernel.lay(&problem, scratch)
 }
 
-// A kernel for a direct caller whose lists have the right lengths: refusals 2 and 4 before the kernel, and the copy after it.
-fn call_sized(
-    kernel: Kernel,
-    n: usize,
-    radius: f64,
-    gradient: &[f64],
-    hessian: &[f64],
-    step: &mut [f64],
-    scratch: &mut [f64],
-) -> Result<Stepped, Refusal>
-    requires { Lent n (length hessian.now) (length gradient.now) (length step.old) (length scratch.old) }
-    ensures { Took (called (bounds_of kernel) (kernel_of kernel) n radius gradient.now hessian.now step.old scratch.old)
-        result step.old step.new scratch.old scratch.new }
-{
-    Refusal::Setting.unless(kernel.settings_right(radius))?;
-    Refusal::Entry.unless(vector::both_finite(gradient, hessian))?;
-    let problem = Subproblem {
-        n,
-        radius,
-        gradient,
-        hessian,
-    };
-    let found = kernel.lay(&problem, scratch);
-    kernel::hand_over(n, found, step, scratch)
-}
-
-// The same for any lists: refusal 1 comes first.
-pub(crate) fn call(
-    kernel: Kernel,
-    n: usize,
-    radius: f64,
-    gradient: &[f64],
-    hessian: &[f64],
-    step: &mut [f64],
-    scratch: &mut [f64],
-) -> Result<Stepped, Refusal>
-    ensures { Took (called (bounds_of kernel) (kernel_of kernel) n radius gradient.now hessian.now step.old scratch.old)
-        result step.old step.new scratch.old scratch.new }
-{
-    kernel::lent(n, hessian.len(), gradient.len(), step.len(), scratch.len())?;
-    call_sized(kernel, n, radius, gradient, hessian, step, scratch)
-}
-
 // The kernel that is chosen, for a direct caller.
 pub fn direct(
     choice: Choice,
@@ -220,13 +217,11 @@ pub fn direct(
         result step.old step.new scratch.old scratch.new }
 {
     kernel::lent(n, hessian.len(), gradient.len(), step.len(), scratch.len())?;
-    call_sized(
-        Kernel::try_from(choice)?,
+    let problem = Subproblem {
         n,
         radius,
         gradient,
         hessian,
-        step,
-        scratch,
-    )
+    };
+    Kernel::try_from(choice)?.call_sized(&problem, step, scratch)
 }

@@ -10,7 +10,7 @@ ghost use Rattle.kernels.specs.Dogleg as Dogleg;
 use crate::choice::Kernel;
 use crate::kernel::Stepped;
 use crate::subproblem::Subproblem;
-use crate::{choice, inverse, kernel, workspace};
+use crate::{inverse, kernel, workspace};
 use vectors::refusal::Refusal;
 use vectors::vector;
 
@@ -130,5 +130,5 @@ pub fn dogleg(
     ensures { Took (called true Dogleg.dogleg n radius gradient.now hessian.now step.old scratch.old)
         result step.old step.new scratch.old scratch.new }
 {
-    choice::call(Kernel::Dogleg, n, radius, gradient, hessian, step, scratch)
+    Kernel::Dogleg.call(n, radius, gradient, hessian, step, scratch)
 }

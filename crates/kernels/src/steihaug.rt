@@ -13,7 +13,7 @@ ghost use Rattle.kernels.specs.Steihaug.{listed, root_of, state_in, Keeps, passe
 use crate::choice::Kernel;
 use crate::kernel::Stepped;
 use crate::subproblem::Subproblem;
-use crate::{choice, kernel, workspace};
+use crate::{kernel, workspace};
 use vectors::refusal::Refusal;
 use vectors::vector;
 
@@ -295,5 +295,5 @@ pub fn steihaug(
         result step.old step.new scratch.old scratch.new }
 {
     let kernel = Kernel::Steihaug { epsilon, limit };
-    choice::call(kernel, n, radius, gradient, hessian, step, scratch)
+    kernel.call(n, radius, gradient, hessian, step, scratch)
 }

@@ -12,7 +12,7 @@ use crate::choice::Kernel;
 use crate::dogleg::Measures;
 use crate::kernel::Stepped;
 use crate::subproblem::Subproblem;
-use crate::{cauchypoint, choice, dogleg, kernel, workspace};
+use crate::{cauchypoint, dogleg, kernel, workspace};
 use vectors::refusal::Refusal;
 use vectors::vector;
 
@@ -76,13 +76,5 @@ pub fn textbook_dogleg(
     ensures { Took (called true Textbook.textbook_dogleg n radius gradient.now hessian.now step.old scratch.old)
         result step.old step.new scratch.old scratch.new }
 {
-    choice::call(
-        Kernel::Textbook,
-        n,
-        radius,
-        gradient,
-        hessian,
-        step,
-        scratch,
-    )
+    Kernel::Textbook.call(n, radius, gradient, hessian, step, scratch)
 }

@@ -1,6 +1,6 @@
--- `kernels::choice::call` meets its contract. Assumes nothing.
+-- `kernels::choice::Kernel::call` meets its contract. Assumes nothing.
 use Rattle.kernels.proofs.Kernels.{by_check, took_size}
-use Rattle.kernels.proofs.choice.call.Goals as goal
+use Rattle.kernels.proofs.choice.Kernel.call.Goals as goal
 
 pub returns-in_err-lent : goal.returns-in_err-lent
 returns-in_err-lent c =
