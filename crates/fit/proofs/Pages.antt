@@ -1,5 +1,5 @@
 -- What puts leave is the page that it was. Assumes nothing.
-use Rattle.std.proofs.Common.{◌≡◌, ℕ, Bool, true, false, cond, List, length, refl, sym, ap, ◌∙◌}
+use Rattle.std.proofs.Common.{◌≡◌, ℕ, Bool, true, false, cond, List, length, refl, ap, ◌∙◌}
 use Rattle.std.specs.Borrow.{MutBor}
 use Rattle.words.specs.Words.{fits_at, placed}
 use Rattle.words.proofs.Laws.{length_placed}

@@ -1,7 +1,6 @@
 -- What the words of a call come to. Assumes nothing.
 use Rattle.std.proofs.Common.{◌≡◌, ℕ, suc, ◌<◌, ◌≤◌, Bool, true, false, cond, not, List, [], ◌∷◌, Option, Some, None, length, take, sym, refl, ap, ◌∙◌, subst, arith, length-take-le}
 use Rattle.offer.specs.Run.{Vectors}
-use Rattle.offer.specs.declared.state.State.{State}
 use Rattle.script.specs.Call.{Call, asked}
 use Rattle.script.specs.Call as Call
 use Rattle.script.specs.declared.Kind.{Kind}
@@ -9,7 +8,7 @@ use Rattle.event.specs.declared.Event.{Event}
 use Rattle.event.specs.declared.Event.TheVariants as event
 use Rattle.event.specs.Event.{is_last}
 use Rattle.station.specs.Happening.{Station, at, Performed}
-use Rattle.station.specs.Station.{kind_of, state_of, perform_by, perform}
+use Rattle.station.specs.Station.{kind_of, perform_by, perform}
 use Rattle.station.specs.declared.Session.{Session}
 use Rattle.station.specs.declared.Session.TheVariants as Kinds
 use Rattle.station.specs.declared.After.{After}
@@ -30,10 +29,6 @@ use Rattle.fit.proofs.Words.{came_same, all_same, ends_nothing}
 use Rattle.fit.proofs.Pages.{puts_same}
 
 module _ (n : ℕ) (session : Session) (v : Vectors) (words : List ℕ) (held : Held) (within : held.count ≤ length words) where
-  pub comes_end : is_end held.ending held.count ≡ true → (state : State) → state ≡ state_of session
-      → Performed (comes_to n (at session v) (take held.count words) held.ending) (record { session = session; event = event.Ended state }) v
-  comes_end e state s = rw (length-take-le held.count words within, e) (record { says = λ i. event.Ended (s i); leaves = refl })
-
   pub comes_call : is_end held.ending held.count ≡ false → (c : Call) → c ≡ asked (kind_of session) n (take held.count words) → (r : After) (v' : Vectors)
       → Performed (perform c (at session v)) r v' → Performed (comes_to n (at session v) (take held.count words) held.ending) r v'
   comes_call e c told r v' p = rw (length-take-le held.count words within, e) (subst (λ (x : Call). Performed (perform x (at session v)) r v') told p)

@@ -1,8 +1,7 @@
 -- Words that are read one after another. Assumes nothing.
 use Rattle.std.proofs.Common.{◌≡◌, ℕ, suc, ◌+◌, ◌-◌, ◌<◌, ◌≤◌, List, [], ◌∷◌, ◌++◌, Option, Some, None, Result, Ok, Err, length, take, set, sym, refl, ap, ◌∙◌, subst, add-one, arith, length-append, length-set, take-suc-set}
 use mathlib.Core.List.{append_assoc, append-nil}
-use Rattle.std.specs.Borrow.{MutBor}
-use Rattle.stream.specs.Input.{Next, Same}
+use Rattle.stream.specs.Input.{Same}
 use Rattle.stream.specs.declared.input.Input.{Input}
 use Rattle.stream.specs.declared.input.Over.{Over}
 use Rattle.stream.specs.declared.input.Over.TheVariants as over

@@ -1,7 +1,6 @@
 // The words of one script, which may be one of many on the same standard input: those of a start or a call come whole, in a lent list.
 ghost use Rattle.std.specs.Prelude.{◌≡◌, ◌≤◌, length, take};
 ghost use Rattle.stream.specs.Input.{Begun};
-ghost use Rattle.fit.specs.Reading as Reading;
 ghost use Rattle.fit.specs.Reading.{Comes, Fills, Holds, Skips, wants, wants_more, is_end};
 
 use script::{Kind, call, start};

@@ -38,9 +38,6 @@ room_is n = omega (arith, add-mul 4 n (n + n), mul-add n n n)
 pub row_room : {n len : ℕ} → Roomy n len → (i : ℕ) → i < n → (4 + i) * (n + n) + (n + n) ≤ len
 row_room {n} r i h = omega (arith, before (n + n) (4 + i) (4 + n) (omega arith), r.long, room_is n)
 
-pub spare_room : {n len : ℕ} → Roomy n len → 0 * (n + n) + (n + n) ≤ len
-spare_room {n} r = omega (arith, before (n + n) 0 (4 + n) (omega arith), r.long, room_is n)
-
 pub low_room : {n len : ℕ} → Roomy n len → (k : ℕ) → k < 8 → k * n + n ≤ len
 low_room {n} r k h = omega (arith, before n k 8 h, r.long)
 
@@ -66,18 +63,6 @@ rows_put w w' n k v a = fun_ext (λ i. a (4 + i) ∙ rw (shift i k))
 
 rows_spare : (w w' : List Float) (n : ℕ) (v : List Float) → Puts w (n + n) 0 v w' → rows_in w' n ≡ rows_in w n
 rows_spare w w' n v a = fun_ext (λ i. a (4 + i) ∙ rw (row_not_spare i))
-
--- row p takes the numbers of row j
-pub moves_row : (w w₁ : List Float) (n j p : ℕ) → Puts w (n + n) (4 + p) (slot w (n + n) (4 + j)) w₁
-    → (rows_in w₁ n ≡ with_row (rows_in w n) p (rows_in w n j)) × (slot w₁ (n + n) 0 ≡ slot w (n + n) 0)
-moves_row w w₁ n j p a = (rows_put w w₁ n p _ a, a 0 ∙ rw (spare_not_row p))
-
--- which it has already
-pub moves_none : (R : Rows) (j p : ℕ) → j ≡ p → R ≡ with_row R p (R j)
-moves_none R j p e = fun_ext (λ i. pick i (eqb i p) refl) where
-  pick : (i : ℕ) (b : Bool) → eqb i p ≡ b → R i ≡ cond b (R j) (R i)
-  pick i true h = ap R (eqb-true i p h ∙ sym e)
-  pick i false h = refl
 
 -- rows j and p swapped: row j, and the others
 swapped_at : (R : Rows) (j p : ℕ) → swapped R j p j ≡ R p
@@ -197,9 +182,6 @@ module _ (R : Rows) (n j p i : ℕ) (below : suc j ≤ i) (inv : p ≡ pivot_amo
 
   pub stays : (x y : Float) → x ≡ magnitude (entry R p j) → y ≡ magnitude (entry R i j) → lt x y ≡ false → p ≡ pivot_among R j (i + 1 - suc j)
   stays x y a b t = sym (next ∙ rw (← a, ← b, t))
-
-  pub pivot_found : n ≤ i → i ≤ n → p ≡ pivot_row n R j
-  pivot_found a b = let e : i ≡ n = omega arith in rw e at inv
 
 pub pivot_first : (R : Rows) (j : ℕ) → j ≡ pivot_among R j (j + 1 - suc j)
 unfolding pivot_among

@@ -1,6 +1,6 @@
 // Gauss-Jordan on [H | I]. Row i is slot 4 + i of width 2·n of the scratch w, so that its slots 0 to 7 of
 // width n are free.
-ghost use Rattle.std.specs.Prelude.{◌≡◌, [], ◌∷◌, ◌+◌, ◌*◌, ◌<◌, ◌≤◌, eqb, length};
+ghost use Rattle.std.specs.Prelude.{◌≡◌, [], ◌∷◌, ◌+◌, ◌*◌, ◌<◌, eqb, length};
 ghost use Rattle.vectors.specs.Vector.{tab, flat};
 ghost use Rattle.vectors.specs.Slots.{slot, Puts};
 ghost use Rattle.vectors.specs.Refusal.{all_hold, size, room, Roomy, stands_for, Ended};

@@ -1,7 +1,6 @@
 // What happened, for people: a row for each trial that was answered, its numbers in decimal, the
 // shortest that read back as the same f64. `trials` were answered before.
 ghost use Rattle.std.specs.Prelude.{◌≡◌, [], ◌∷◌};
-ghost use Rattle.stream.specs.Output.{Put};
 ghost use Rattle.stream.specs.Pieces.{Puts};
 ghost use Rattle.report.specs.Table as Table;
 

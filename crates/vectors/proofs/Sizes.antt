@@ -1,7 +1,7 @@
 -- Laws of tests and sizes. Assumes nothing.
 use mathlib.Core.Path.{◌≡◌, refl, sym, ◌∙◌}
 use mathlib.Core.Bool.{Bool, true, false, ◌&&◌}
-use mathlib.Core.List.{List, [], ◌∷◌, ◌++◌}
+use mathlib.Core.List.{List, [], ◌∷◌}
 use Prim.Native.Nat.{ℕ, ◌+◌, ◌*◌, ◌<◌, ◌≤◌}
 use native.Mathlib.Nat.{mul-le-mul_right}
 use native.Mathlib.Omega.{arith}
@@ -50,17 +50,6 @@ Each (b ∷ bs) = (b ≡ true) × Each bs
 pub each_holds : (bs : List Bool) → all_hold bs ≡ true → Each bs
 each_holds [] e = tt
 each_holds (b ∷ bs) e = let p = both b (all_hold bs) e in (p.0, each_holds bs p.1)
-
--- where some fail, a longer list does
-pub more_fail : (bs cs : List Bool) → all_hold bs ≡ false → all_hold (bs ++ cs) ≡ false
-more_fail [] cs e = cc
-more_fail (true ∷ bs) cs e = more_fail bs cs e
-more_fail (false ∷ bs) cs e = refl
-
--- one test
-pub one_holds : (b : Bool) → all_hold (b ∷ []) ≡ b
-one_holds true = refl
-one_holds false = refl
 
 -- ---- n·n is small, and rows lie within it
 

@@ -1,4 +1,3 @@
-use Rattle.std.proofs.Common.{◌≡◌, length}
 use Rattle.fit.specs.Meaning.{Kept}
 use Rattle.fit.proofs.Turns.{still}
 use Rattle.fit.proofs.calls.Given as goal

@@ -1,5 +1,5 @@
 -- `fit::run` meets its contract. Assumes nothing.
-use Rattle.fit.proofs.Words.{came_same, all_same}
+use Rattle.fit.proofs.Words.{came_same}
 use Rattle.fit.proofs.Turns.{ended}
 use Rattle.fit.proofs.run.Goals as goal
 

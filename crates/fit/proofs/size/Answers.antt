@@ -1,5 +1,5 @@
 -- `fit::size` meets its contract: words that are as many as a start wants are a start's. Assumes nothing.
-use Rattle.std.proofs.Common.{◌≡◌, ◌≤◌, true, length, sym, ◌∙◌, eq-eqb}
+use Rattle.std.proofs.Common.{◌≡◌, ◌≤◌, true, sym, ◌∙◌, eq-eqb}
 use Rattle.vectors.proofs.Sizes.{square_small}
 use Rattle.script.specs.Start.{is_whole}
 use Rattle.script.proofs.Starts.{whole_start}
