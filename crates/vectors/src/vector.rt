@@ -142,6 +142,11 @@ fn times_unchecked(n: usize, h: &[f64], d: &[f64], out: &mut [f64])
     ensures { out.new ≡ Vector.times n h.now d.now }
 {
     for (i, y) in out.iter_mut().enumerate() {
-        *y = row_dot(n, h, i, d);
+        let part = row(n, h, i);
+        let mut total = 0.0;
+        for (k, x) in part.iter().enumerate() {
+            total += x * d[k];
+        }
+        *y = float::one_nan(total);
     }
 }
