@@ -1,21 +1,18 @@
 -- Laws of the rows in a scratch, and of the elimination. Assumes nothing.
-use mathlib.Core.Path.{◌≡◌, refl, sym, ◌∙◌, ap, fun_ext}
+use mathlib.Core.Path.{◌≡◌, refl, sym, ◌∙◌, ap, subst, fun_ext}
 use mathlib.Core.Bool.{Bool, true, false, cond}
 use mathlib.Core.List.{List, [], ◌++◌}
-use mathlib.Core.Logic.{dite, inl, inr}
+use mathlib.Core.Logic.{dite}
 use Prim.Native.Nat.{ℕ, zero, suc, ◌+◌, ◌*◌, ◌-◌, ◌<◌, ◌≤◌}
 use native.Mathlib.Nat.{mul-le-mul_right, suc-mul, add-mul, mul-add, add_assoc}
 use native.Mathlib.Numerals.{add-one}
 use native.Mathlib.Decide.{dec_lt}
 use native.Mathlib.Omega.{arith}
 use lib.Dec.{eqb, ltb}
-use lib.ListN.{length, take, drop, set, replicate, drop_of_length-le, length-drop}
+use lib.ListN.{length, take, drop, drop_of_length-le, length-drop}
 use lib.Seq.{take-nil, take-add, take_all, drop-drop, length-take-le, get_or-take, get_or-drop}
 use lib.Ieee.{Float, nan, lt}
 use borrow.Author.Tests.{eqb-true, eqb-false, eq-eqb, ne_eqb, ltb-true, ltb-false, lt-ltb, le-ltb}
-use borrow.Rule.Slice.PartMut.{put_mid}
-use Rattle.std.proofs.lemmas.Bool.{cases_eq}
-use Rattle.std.proofs.lemmas.List.{length-append, length-replicate, get_or_append_left, get_or-append_right, get_or-replicate, get_or-set_same, get_or-set_other, take_at, drop_at}
 use Rattle.float.specs.Constants.{nought, one}
 use Rattle.float.specs.Numbers.{◌⊖◌, ◌⊗◌, ◌⊘◌, magnitude}
 use Rattle.vectors.specs.Vector.{at, tab, over, flat}
@@ -117,33 +114,19 @@ laid_more n b f w i p w' v a e k h =
 pub laid_more₀ : (n : ℕ) (f : ℕ → List Float) (w : List Float) (i : ℕ) → Laid n 0 f w i → (w' v : List Float) → Puts w n i v w' → v ≡ f i → Laid n 0 f w' (i + 1)
 laid_more₀ n f w i p w' v a e = let z : 0 + i ≡ i = omega arith in laid_more n 0 f w i p w' v (rw z a) e
 
--- row i of [H | I], of its halves and the one in the right one
-module _ (n i : ℕ) (H left right rest : List Float) (m : ℕ) (h : i < n)
-    (is_left : left ≡ slot H n i) (long : length left ≡ n) (is_right : right ≡ replicate n nought) where
-  abbrev halves : List Float
-  halves = left ++ (right ++ drop m rest)
+-- row i of [H | I], where its halves are there
+module _ (n i : ℕ) (H row : List Float) (left : (k : ℕ) → k < n → at row k ≡ at H (i * n + k)) (right : (k : ℕ) → k < n → at row (n + k) ≡ cond (eqb k i) one nought) where
+  on_right : (k : ℕ) → k < n → at row (n + k) ≡ start_entry n H i (n + k)
+  on_right k h = right k h ∙ rw (le-ltb (n + k) n (omega arith)) (pick (eqb k i) refl) where
+    pick : (b : Bool) → eqb k i ≡ b → cond b one nought ≡ cond (eqb (n + k) (n + i)) one nought
+    pick true e = rw (eq-eqb (n + k) (n + i) (ap (λ (m : ℕ). n + m) (eqb-true k i e)))
+    pick false e = rw (ne_eqb (n + k) (n + i) (λ z. eqb-false k i e (omega (arith, z))))
 
-  length_right : length right ≡ n
-  length_right = rw is_right (length-replicate n nought)
-
-  at_halves : (k : ℕ) → k < n + n → at halves k ≡ cond (ltb k n) (at H (i * n + k)) nought
-  at_halves k l =
-      dite (dec_lt k n)
-      (λ low. get_or_append_left left (right ++ drop m rest) nan k (omega (arith, long)) ∙ rw (lt-ltb k n low) (ap (λ (v : List Float). at v k) is_left ∙ at_slot H n i k low))
-      (λ high.
-      let inside : k - n < length right = omega (arith, length_right, l, high) in
-      get_or-append_right left (right ++ drop m rest) n k nan long (omega (arith, high)) ∙ get_or_append_left right (drop m rest) nan (k - n) inside
-      ∙ rw (le-ltb k n (omega (arith, high))) (ap (λ (v : List Float). at v (k - n)) is_right ∙ get_or-replicate n (k - n) nought nan (omega (arith, l, high))))
-
-  pub starts : (k : ℕ) → k < n + n → at (set (put_mid n m (left ++ rest) right) (n + i) one) k ≡ start_entry n H i k
+  pub starts : (k : ℕ) → k < n + n → at row k ≡ start_entry n H i k
   starts k l =
-      let whole : put_mid n m (left ++ rest) right ≡ halves = rw (take_at left rest n long, drop_at left rest n long) in
-      let inside : n + i < length halves = omega (arith, h, long, length_right, length-append left (right ++ drop m rest), length-append right (drop m rest)) in
-      rw whole
-      (elim (cases_eq k (n + i)) [
-        | inl same ↦ rw same (get_or-set_same halves (n + i) one nan inside ∙ rw (le-ltb (n + i) n (omega arith), eq-eqb (n + i) (n + i) refl))
-        | inr other ↦ get_or-set_other halves (n + i) k one nan other ∙ at_halves k l ∙ rw (ne_eqb k (n + i) other)
-      ])
+      dite (dec_lt k n)
+      (λ low. left k low ∙ rw (lt-ltb k n low))
+      (λ high. let there : n + (k - n) ≡ k = omega (arith, high) in subst (λ (m : ℕ). at row m ≡ start_entry n H i m) there (on_right (k - n) (omega (arith, l, high))))
 
 -- the rows of [H | I], once all are laid
 pub laid_start : (w : List Float) (n : ℕ) (h : List Float) → Laid (n + n) 4 (λ i. tab (n + n) (start_entry n h i)) w n → Roomy n (length w) → rows_in w n ≡ start n h

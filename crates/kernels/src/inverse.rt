@@ -18,9 +18,10 @@ fn start_row(n: usize, w: &mut [f64], i: usize, h: &[f64])
     let width = n + n;
     let from = (4 + i) * width;
     let row = &mut w[from..from + width];
-    row[..n].copy_from_slice(&h[i * n..i * n + n]);
-    row[n..].fill(0.0);
-    row[n + i] = 1.0;
+    for k in 0..n {
+        row[k] = h[i * n + k];
+        row[n + k] = if k == i { 1.0 } else { 0.0 };
+    }
 }
 
 fn entry(n: usize, w: &[f64], i: usize, j: usize) -> f64
@@ -93,29 +94,21 @@ fn clear_rows(n: usize, w: &mut [f64], j: usize)
     }
 }
 
-// The pivot row of column j starts at j and moves down.
-fn pivot_row(n: usize, w: &[f64], j: usize) -> usize
-    requires { Roomy n (length w.now) × (j < n) }
-    ensures { (result < n) × (result ≡ Inverse.pivot_row n (Inverse.rows_in w.now n) j) }
-{
-    let mut p = j;
-    for i in j + 1..n {
-        let held = float::magnitude(entry(n, w, p, j));
-        let seen = float::magnitude(entry(n, w, i, j));
-        if seen > held {
-            p = i;
-        }
-    }
-    p
-}
-
 // Column after column, unless one has no pivot.
 fn columns(n: usize, w: &mut [f64], bound: f64) -> Result<(), Refusal>
     requires { Roomy n (length w.old) }
     ensures { stands_for result (Inverse.rows_in w.new n) ≡ Inverse.columns bound n n 0 (Inverse.rows_in w.old n) }
 {
     for j in 0..n {
-        let p = pivot_row(n, w, j);
+        // the pivot row starts at j and moves down
+        let mut p = j;
+        for i in j + 1..n {
+            let held = float::magnitude(entry(n, w, p, j));
+            let seen = float::magnitude(entry(n, w, i, j));
+            if seen > held {
+                p = i;
+            }
+        }
         if no_pivot(bound, entry(n, w, p, j)) {
             return Err(Refusal::Pivot);
         }
