@@ -166,6 +166,9 @@ module _ (R : Rows) (n j p i : ℕ) (below : suc j ≤ i) (inv : p ≡ pivot_amo
   pub stays : (x y : Float) → x ≡ magnitude (entry R p j) → y ≡ magnitude (entry R i j) → lt x y ≡ false → p ≡ pivot_among R j (i + 1 - suc j)
   stays x y a b t = sym (next ∙ rw (← a, ← b, t))
 
+  pub pivot_found : n ≤ i → i ≤ n → p ≡ pivot_row n R j
+  pivot_found a b = let e : i ≡ n = omega arith in rw e at inv
+
 pub pivot_first : (R : Rows) (j : ℕ) → j ≡ pivot_among R j (j + 1 - suc j)
 unfolding pivot_among
 pivot_first R j = let e : j + 1 - suc j ≡ 0 = omega arith in rw e

@@ -53,7 +53,7 @@ pub fn begin(radius: f64, cost: f64) -> State
     }
 }
 
-// With another radius and cost, in another phase, with another count. No other function makes a state from a state.
+// With another radius and cost, in another phase, with another count.
 pub fn moved(state: State, radius: f64, cost: f64, phase: Phase, count: u64) -> State
     ensures { result ≡ Definition.moved state radius cost phase count }
 {
