@@ -1,11 +1,11 @@
 -- A NaN: what it does to an operation and to a comparison, and how it is told. Assumes nothing.
-use mathlib.Core.Path.{◌≡◌, refl, sym, ap, ◌∙◌}
+use mathlib.Core.Path.{◌≡◌, refl, sym, ◌∙◌}
 use mathlib.Core.Bool.{Bool, true, false, not}
-use Prim.Native.Nat.{ℕ, ◌<◌, ◌%◌}
+use Prim.Native.Nat.{ℕ, ◌*◌, ◌<◌, ◌%◌}
 use lib.IntN.{ℤ}
-use lib.Ieee.{Float, nan, inf, fin, binary64, add, sub, mul, div, lt, is_nan, of_bits, to_bits}
+use lib.Ieee.{Float, nan, inf, fin, binary64, up, down, level, add, sub, mul, div, lt, eq, ne, is_nan, of_bits}
 use lib.Ieee.Bits.{nan_bits_is, nan_bits_above}
-use borrow.Author.Tests.{lt-ltb}
+use borrow.Author.Tests.{lt-ltb, eq-eqb}
 
 -- what holds of a NaN, of the infinities and of every number holds of each float
 pub each : (P : Float → Type 0) → P nan → ((s : Bool) → P (inf s)) → ((s : Bool) (m : ℕ) (e : ℤ) → P (fin s m e)) → (x : Float) → P x
@@ -56,15 +56,23 @@ is_nan_lem nan e = refl
 is_nan_lem (inf s) e = cc
 is_nan_lem (fin s m k) e = cc
 
--- it is the f64 with the bits 7ff8000000000000
-pub nan_made : (x : Float) → is_nan x ≡ true → of_bits binary64 0x7ff8_0000_0000_0000 ≡ x
-unfolding of_bits
-nan_made x e = sym (is_nan_lem x e)
+level_itself : (s : Bool) (n : ℕ) → level s n s n ≡ true
+level_itself true n = rw (eq-eqb n n refl)
+level_itself false n = rw (eq-eqb n n refl)
 
-pub nan_pattern : (x : Float) → is_nan x ≡ true → 0x7ff8_0000_0000_0000 ≡ to_bits binary64 x
-unfolding to_bits
-nan_pattern x e = sym (ap (to_bits binary64) (is_nan_lem x e))
+-- a NaN, and nothing else, differs from itself
+pub differs_is_nan : (x : Float) → ne x x ≡ is_nan x
+unfolding ne eq is_nan
+differs_is_nan nan = refl
+differs_is_nan (inf true) = refl
+differs_is_nan (inf false) = refl
+differs_is_nan (fin s m e) = rw (level_itself s (m * up e * down e)) refl
 
 -- a bit pattern above the infinity's, its sign's bit taken off, is a NaN's
 pub nan_bits_lem : (n : ℕ) → 0x7ff0_0000_0000_0000 < n % 0x8000_0000_0000_0000 → of_bits binary64 n ≡ nan
 nan_bits_lem n h = is_nan_lem (of_bits binary64 n) (sym (nan_bits_is binary64 n) ∙ nan_bits_above binary64 n ∙ lt-ltb 0x7ff0_0000_0000_0000 (n % 0x8000_0000_0000_0000) h)
+
+-- 0/0, where a pattern is a NaN's
+pub nan_made : (n : ℕ) → 0x7ff0_0000_0000_0000 < n % 0x8000_0000_0000_0000 → div binary64 (of_bits binary64 0) (of_bits binary64 0) ≡ of_bits binary64 n
+unfolding div of_bits
+nan_made n h = sym (nan_bits_lem n h)

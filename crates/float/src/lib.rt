@@ -1,5 +1,6 @@
-// Rust's is_finite, is_nan, abs, min, from_bits and to_bits, each total, with one NaN, and equal to a
-// definition of specs/Numbers.antt or of the language's own account of IEEE 754.
+// What Rust's f64 offers, is_nan, abs and min written out: finite, is_nan, abs, min, from_bits and to_bits,
+// each total, with one NaN, and equal to a definition of specs/Numbers.antt or of the language's own account
+// of IEEE 754.
 #![tactic(auto)]
 
 ghost use Rattle.std.specs.Prelude.{◌≡◌};
@@ -19,15 +20,21 @@ pub fn finite(x: f64) -> bool
 pub fn is_nan(x: f64) -> bool
     ensures { result ≡ is_nan x }
 {
-    x.is_nan()
+    x != x
 }
 
 // Rust's x.abs().
-#[tactic(auto, using(crate::proofs::Scalars::magnitude_is))]
 pub fn magnitude(x: f64) -> f64
     ensures { result ≡ Numbers.magnitude x }
 {
-    one_nan(x.abs())
+    if x < 0.0 {
+        return -x;
+    }
+    // -0 too
+    if x == 0.0 {
+        return 0.0;
+    }
+    one_nan(x)
 }
 
 // Rust's x.min(y) for an x that is no NaN. The library's `min` leaves open which of +0 and -0 it
@@ -41,31 +48,29 @@ pub fn smaller(x: f64, y: f64) -> f64
 
 // x, and of all NaNs the one with bits 7ff8000000000000. Definitions know one NaN, a machine many:
 // this is the last thing that happens to a number that is handed out.
-#[tactic(auto, using(crate::proofs::Nan::nan_made))]
 pub fn one_nan(x: f64) -> f64
     ensures { result ≡ x }
 {
-    if x.is_nan() { f64::NAN } else { x }
+    if x != x { 0.0 / 0.0 } else { x }
 }
 
 // The f64 of a bit pattern: the one NaN for every NaN's.
-#[tactic(auto, using(crate::proofs::Nan::nan_bits_lem, std::proofs::lemmas::Float::not_nan_f64_bits))]
+#[tactic(auto, using(crate::proofs::Nan::nan_made, std::proofs::lemmas::Float::not_nan_f64_bits))]
 pub fn float_of(bits: u64) -> f64
     ensures { result ≡ of_bits binary64 bits }
 {
     if bits % 0x8000_0000_0000_0000 > 0x7ff0_0000_0000_0000 {
-        f64::NAN
+        0.0 / 0.0
     } else {
         f64::from_bits(bits)
     }
 }
 
 // The bit pattern of an f64: 7ff8000000000000 for every NaN.
-#[tactic(auto, using(crate::proofs::Nan::nan_pattern))]
 pub fn bits_of(x: f64) -> u64
     ensures { result ≡ to_bits binary64 x }
 {
-    if x.is_nan() {
+    if x != x {
         0x7ff8_0000_0000_0000
     } else {
         x.to_bits()

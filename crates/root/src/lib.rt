@@ -71,6 +71,6 @@ pub fn root(x: f64) -> f64
     } else if x >= 0.0 {
         x
     } else {
-        f64::NAN
+        0.0 / 0.0
     }
 }
