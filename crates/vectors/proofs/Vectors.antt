@@ -1,12 +1,12 @@
 -- Laws of tabulated vectors. Assumes nothing.
 use mathlib.Core.Path.{◌≡◌, refl, sym, ◌∙◌, ap}
 use mathlib.Core.List.{List, ◌∷◌}
-use Prim.Native.Nat.{ℕ, zero, suc, ◌+◌, ◌-◌, ◌<◌, ◌≤◌}
+use Prim.Native.Nat.{ℕ, zero, suc, ◌+◌, ◌<◌, ◌≤◌}
 use native.Mathlib.Numerals.{add-one}
 use native.Mathlib.Nat.{not-suc-le-zero, le_of_suc-le-suc}
 use native.Mathlib.Omega.{arith}
-use lib.ListN.{length, replicate, drop, length-drop, get_or-eq_default}
-use lib.Seq.{ext_get_or, drop-cons}
+use lib.ListN.{length, replicate, get_or-eq_default}
+use lib.Seq.{ext_get_or}
 use lib.Ieee.{Float, nan}
 use Rattle.float.specs.Numbers.{◌⊕◌, ◌⊗◌}
 use Rattle.float.specs.Constants.{nought}
@@ -78,17 +78,3 @@ dot_short a b h = go (length a) h
     go : (l : ℕ) → length b < l → nan ≡ dot_to a b l
     go zero h = absurd (not-suc-le-zero h)
     go (suc k) h = sym (dot_to_short a b k (le_of_suc-le-suc h))
-
--- ---- a walk along a list from number k on, as an iterator's
-
-pub record Walked (v rest : List Float) (k : ℕ) (x : Float) : Type 0 where
-  pub inside : suc k ≤ length v
-  pub is : x ≡ at v k
-  pub on : rest ≡ drop (suc k) v
-
-pub walked : (v rest : List Float) (k : ℕ) (x : Float) → x ∷ rest ≡ drop k v → Walked v rest k x
-walked v rest k x e =
-    let some : suc (length rest) ≡ length v - k = ap length e ∙ length-drop k v in
-    let inside : k < length v = omega arith in
-    let split : x ∷ rest ≡ at v k ∷ drop (suc k) v = e ∙ drop-cons v k nan inside in
-    record { inside = omega arith; is = cc; on = cc }

@@ -74,7 +74,7 @@ pub fn size(n: usize) -> bool
 pub fn vectors(n: usize, a: usize, b: usize) -> bool
     ensures { result ≡ Table.all_hold (Table.size n ∷ eqb a n ∷ eqb b n ∷ []) }
 {
-    size(n) && a == n && b == n
+    all_hold(&[size(n), a == n, b == n])
 }
 
 // n and the length of a matrix are right.
@@ -88,5 +88,5 @@ pub fn matrix(n: usize, h: usize) -> bool
 pub fn shaped(n: usize, h: usize, a: usize, b: usize) -> bool
     ensures { result ≡ Table.all_hold (Table.size n ∷ eqb h (n * n) ∷ eqb a n ∷ eqb b n ∷ []) }
 {
-    matrix(n, h) && a == n && b == n
+    size(n) && all_hold(&[h == n * n, a == n, b == n])
 }

@@ -45,7 +45,7 @@ pub fn row(n: usize, h: &[f64], i: usize) -> &[f64]
     ensures { result.now ≡ row_part n h.now i }
 {
     if !refusal::matrix(n, h.len()) || n <= i {
-        return &[];
+        return &h[..0];
     }
     &h[i * n..i * n + n]
 }
@@ -62,7 +62,7 @@ pub fn dot(n: usize, a: &[f64], b: &[f64]) -> Result<f64, Refusal>
 pub fn norm(n: usize, a: &[f64]) -> Result<f64, Refusal>
     ensures { tells result ≡ norm_answer n a.now }
 {
-    Refusal::Size.unless(refusal::size(n) && a.len() == n)?;
+    Refusal::Size.unless(refusal::all_hold(&[refusal::size(n), a.len() == n]))?;
     Ok(norm_any(a))
 }
 
@@ -89,11 +89,11 @@ pub fn dot_any(a: &[f64], b: &[f64]) -> f64
     ensures { result ≡ Vector.dot a.now b.now }
 {
     if b.len() < a.len() {
-        return f64::NAN;
+        return 0.0 / 0.0;
     }
     let mut sum = 0.0;
-    for (x, y) in a.iter().zip(b) {
-        sum += x * y;
+    for (i, x) in a.iter().enumerate() {
+        sum += x * b[i];
     }
     float::one_nan(sum)
 }
