@@ -10,7 +10,7 @@ use crate::kernel::Stepped;
 use crate::subproblem::Subproblem;
 use crate::{cauchypoint, dogleg, kernel, steihaug, textbook};
 use vectors::refusal::Refusal;
-use vectors::vector;
+use vectors::{refusal, vector};
 
 // Which kernel, and what it is told beside the radius and its lists: epsilon and the limit are Steihaug's, and of the two
 // doglegs 1 is the ported one, 2 the textbook's. A caller may give any numbers, and those that name nothing are refused by 2:
@@ -91,7 +91,10 @@ impl TryFrom<Choice> for Kernel {
 pub fn in_range(choice: Choice) -> bool
     ensures { result ≡ in_range choice }
 {
-    Kernel::try_from(choice).is_ok() && kernel::bounded(choice.epsilon, choice.limit)
+    refusal::all_hold(&[
+        Kernel::try_from(choice).is_ok(),
+        kernel::bounded(choice.epsilon, choice.limit),
+    ])
 }
 
 impl Kernel {

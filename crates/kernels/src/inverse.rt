@@ -163,7 +163,8 @@ fn hand_out(n: usize, w: &[f64], out: &mut [f64])
 fn sized(n: usize, h: usize, out: usize, scratch: usize) -> bool
     ensures { result ≡ all_hold (size n ∷ eqb h (n * n) ∷ eqb out (n * n) ∷ eqb scratch (room n) ∷ []) }
 {
-    refusal::matrix(n, h) && out == n * n && scratch == 2 * (n * n) + 8 * n
+    refusal::size(n)
+        && refusal::all_hold(&[h == n * n, out == n * n, scratch == 2 * (n * n) + 8 * n])
 }
 
 // The inverse of h, into out.

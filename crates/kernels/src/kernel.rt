@@ -31,14 +31,20 @@ pub fn positive(x: f64) -> bool
 pub(crate) fn bounded(epsilon: f64, limit: u64) -> bool
     ensures { result ≡ bounded epsilon limit }
 {
-    positive(epsilon) && limit <= 10000
+    refusal::all_hold(&[positive(epsilon), limit <= 10000])
 }
 
 // The lengths of a kernel's matrix, gradient, step and scratch.
 fn sized(n: usize, h: usize, g: usize, step: usize, scratch: usize) -> bool
     ensures { result ≡ all_hold (size n ∷ eqb h (n * n) ∷ eqb g n ∷ eqb step n ∷ eqb scratch (room n) ∷ []) }
 {
-    refusal::shaped(n, h, g, step) && scratch == 2 * (n * n) + 8 * n
+    refusal::size(n)
+        && refusal::all_hold(&[
+            h == n * n,
+            g == n,
+            step == n,
+            scratch == 2 * (n * n) + 8 * n,
+        ])
 }
 
 // Refusal 1, unless they are right.

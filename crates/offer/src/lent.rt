@@ -20,12 +20,14 @@ pub fn all_sized(
     ensures { result ≡ all_sized n point.now gradient.now hessian.now step.now trial.now scratch.now }
 {
     refusal::size(n)
-        && point.len() == n
-        && gradient.len() == n
-        && hessian.len() == n * n
-        && step.len() == n
-        && trial.len() == n
-        && scratch.len() == 2 * (n * n) + 8 * n
+        && refusal::all_hold(&[
+            point.len() == n,
+            gradient.len() == n,
+            hessian.len() == n * n,
+            step.len() == n,
+            trial.len() == n,
+            scratch.len() == 2 * (n * n) + 8 * n,
+        ])
 }
 
 // The entries that a proposal reads.

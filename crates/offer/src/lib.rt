@@ -92,8 +92,8 @@ fn hand_out(
 }
 
 // The kernel that is chosen is run, and its step and the trial are written, unless a refusal is due. A door for sessions
-// that have looked, and public for the same reason as `lay_unchecked`, which it calls: refusal 2 is what the session says
-// of itself, and beside it only the kernel's number is asked.
+// that have looked, and public for one that is no `Session<S>`: refusal 2 is what the session says of itself, and beside it
+// only the kernel's and the dogleg's number are asked.
 pub fn make_unchecked(
     asked: Asked,
     n: usize,

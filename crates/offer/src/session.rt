@@ -8,6 +8,7 @@ ghost use Rattle.offer.specs.Calls.{Proposes};
 use crate::state::{Phase, Said, State};
 use crate::{Asked, range, state};
 use kernels::choice::Choice;
+use vectors::refusal;
 use vectors::refusal::Refusal;
 
 // What a session asks of its settings.
@@ -63,9 +64,11 @@ impl<S: Kind> Session<S> {
     pub fn is_sound(self) -> bool
         ensures { result ≡ Definition.sound S.kind self }
     {
-        self.settings.in_range()
-            && state::steady(self.state)
-            && self.state.count <= self.settings.allowance()
+        refusal::all_hold(&[
+            self.settings.in_range(),
+            state::steady(self.state),
+            self.state.count <= self.settings.allowance(),
+        ])
     }
 
     // What it lends of itself to be asked for a step.

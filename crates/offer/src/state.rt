@@ -1,8 +1,9 @@
 // What a session of either kind keeps beside its settings, and what its calls say.
-ghost use Rattle.std.specs.Prelude.{◌≡◌, ◌-◌, ◌^◌, min};
+ghost use Rattle.std.specs.Prelude.{◌≡◌};
 ghost use Rattle.offer.specs.State as Definition;
 ghost use Rattle.offer.specs.State.{result_of};
 
+use vectors::refusal;
 use vectors::refusal::Refusal;
 
 // Awaiting a cost, a session holds what its step was promised on: the model value, or SR1's predicted fall, and the step norm.
@@ -71,17 +72,6 @@ pub fn in_phase(state: State, phase: Phase) -> State
     State { phase, ..state }
 }
 
-// The count after an answer that is taken: a hidden trial is one more, any other ends the row. A count that was put at the end of
-// its type stays there; no session takes an answer with more than 1,000.
-pub fn counted(cost: f64, count: u64) -> u64
-    ensures { result ≡ min (Definition.counted cost count) (2 ^ 64 - 1) }
-{
-    if float::is_nan(cost) {
-        return count.saturating_add(1);
-    }
-    0
-}
-
 // The most hidden trials in a row that a session may be set to take.
 pub fn allowable(allowance: u64) -> bool
     ensures { result ≡ Definition.allowable allowance }
@@ -93,7 +83,11 @@ pub fn allowable(allowance: u64) -> bool
 pub fn steady(state: State) -> bool
     ensures { result ≡ Definition.steady state }
 {
-    float::finite(state.radius) && 0.0 <= state.radius && float::finite(state.cost)
+    refusal::all_hold(&[
+        float::finite(state.radius),
+        0.0 <= state.radius,
+        float::finite(state.cost),
+    ])
 }
 
 pub fn is_ready(phase: Phase) -> bool

@@ -1,20 +1,22 @@
 -- `kernels::inverse::sized` meets its contract. Assumes nothing.
-use mathlib.Core.Path.{sym, ◌∙◌}
-use native.Mathlib.Omega.{arith}
-use Rattle.vectors.proofs.Sizes.{square_small, square_true}
+use Rattle.std.proofs.Common.{arith, sym}
+use Rattle.vectors.proofs.Sizes.{size_small}
 use Rattle.kernels.proofs.inverse.sized.Goals as goal
-use Rattle.kernels.proofs.inverse.sized.Goals.{then-matrix, else-matrix}
 
-pub overflow_mul-result-then-out-n : goal.overflow_mul-result-then-out-n
-overflow_mul-result-then-out-n c =
-    elim c.if-matrix.branch [
-      | then-matrix v ↦ let s = square_true _ _ (sym c.matrix.ensures ∙ v.if-matrix.true) in omega (arith, square_small _ s.high)
-      | else-matrix v ↦ cc
-    ]
+pub overflow_mul-n-then-size : goal.overflow_mul-n-then-size
+overflow_mul-n-then-size c = omega (arith, size_small _ (sym c.if-size.ensures))
 
-pub overflow_add-result : goal.overflow_add-result
-overflow_add-result c =
-    elim c.if-matrix.branch [
-      | then-matrix v ↦ let s = square_true _ _ (sym c.matrix.ensures ∙ v.if-matrix.true) in omega (arith, square_small _ s.high, s.high)
-      | else-matrix v ↦ cc
-    ]
+pub overflow_mul-n-then-size-2 : goal.overflow_mul-n-then-size-2
+overflow_mul-n-then-size-2 c = omega (arith, size_small _ (sym c.if-size.ensures))
+
+pub overflow_mul-n-then-size-3 : goal.overflow_mul-n-then-size-3
+overflow_mul-n-then-size-3 c = omega (arith, size_small _ (sym c.if-size.ensures))
+
+pub overflow_mul-n-then-size-4 : goal.overflow_mul-n-then-size-4
+overflow_mul-n-then-size-4 c = omega (arith, size_small _ (sym c.if-size.ensures))
+
+pub overflow_add-n : goal.overflow_add-n
+overflow_add-n c = omega (arith, size_small _ (sym c.if-size.ensures))
+
+pub overflow_mul-n : goal.overflow_mul-n
+overflow_mul-n c = omega (arith, size_small _ (sym c.if-size.ensures))

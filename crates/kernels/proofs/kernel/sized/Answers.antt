@@ -1,11 +1,19 @@
 -- `kernels::kernel::sized` meets its contract. Assumes nothing.
-use mathlib.Core.Path.{sym, ◌∙◌}
-use native.Mathlib.Omega.{arith}
-use Rattle.vectors.proofs.Sizes.{square_small, shaped_true}
+use Rattle.std.proofs.Common.{arith, sym}
+use Rattle.vectors.proofs.Sizes.{size_small}
 use Rattle.kernels.proofs.kernel.sized.Goals as goal
 
-pub overflow_mul-result-then-shaped : goal.overflow_mul-result-then-shaped
-overflow_mul-result-then-shaped c = let s = (shaped_true _ _ _ _ (sym c.shaped.ensures ∙ c.if-shaped.true)).square in omega (arith, square_small _ s.high)
+pub overflow_mul-n-then-size : goal.overflow_mul-n-then-size
+overflow_mul-n-then-size c = omega (arith, size_small _ (sym c.if-size.ensures))
 
-pub overflow_add-result : goal.overflow_add-result
-overflow_add-result c = let s = (shaped_true _ _ _ _ (sym c.shaped.ensures ∙ c.if-shaped.true)).square in omega (arith, square_small _ s.high, s.high)
+pub overflow_mul-n-then-size-2 : goal.overflow_mul-n-then-size-2
+overflow_mul-n-then-size-2 c = omega (arith, size_small _ (sym c.if-size.ensures))
+
+pub overflow_mul-n-then-size-3 : goal.overflow_mul-n-then-size-3
+overflow_mul-n-then-size-3 c = omega (arith, size_small _ (sym c.if-size.ensures))
+
+pub overflow_add-n : goal.overflow_add-n
+overflow_add-n c = omega (arith, size_small _ (sym c.if-size.ensures))
+
+pub overflow_mul-n : goal.overflow_mul-n
+overflow_mul-n c = omega (arith, size_small _ (sym c.if-size.ensures))
