@@ -1,6 +1,6 @@
 -- How each call ends: its contract, from what its code has found out. Assumes nothing.
 use mathlib.Core.Path.{◌≡◌, refl, sym, ap, ◌∙◌}
-use mathlib.Core.Bool.{Bool, true, false, cond, ◌&&◌, not}
+use mathlib.Core.Bool.{Bool, true, false, cond, not}
 use mathlib.Core.List.{List, [], ◌∷◌}
 use Prim.Native.Nat.{ℕ, zero, suc, ◌≤◌}
 use native.Mathlib.Omega.{arith}
@@ -16,7 +16,7 @@ use Rattle.vectors.specs.Vector.{zeros, dot_to, dot, all_finite}
 use Rattle.vectors.specs.Refusal.{Answer, refused, given, Check, ◌if◌, unless, then, judged, all_hold, sized, Square}
 use Rattle.vectors.specs.declared.refusal.Refusal.{Refusal}
 use Rattle.vectors.specs.declared.refusal.Refusal.TheVariants.{Size, Setting, Entry, Range}
-use Rattle.vectors.proofs.Sizes.{Each, each_holds, was_right, and_true}
+use Rattle.vectors.proofs.Sizes.{Each, each_holds, was_right}
 use Rattle.kernels.proofs.Kernels.{unless_passed, unless_failed, early, first_passed, was_wrong}
 use Rattle.offer.specs.Offer.{all_sized, proposal_checks, Offer, stepping}
 use Rattle.offer.specs.State.{result_of, moved, counted, Promise, promised}
@@ -208,13 +208,13 @@ module _ (s : Session) (n : ℕ) (F : Float) (new_gradient point step trial grad
           unfolding settled
           judge_rejects t f = rw (f, is-count, settles, t) (record { says = refl; leaves_point = refl; leaves_gradient = refl; leaves_hessian = u.leaves ∙ rw good; leaves_scratch = z })
 
-  -- b and h are what the code found of the lengths of what any session is lent, and of the session
-  module _ (b h : Bool) (is-sized : b ≡ all_sized n point gradient hessian step trial scratch) (is-sound : h ≡ any.sound kind s) where
+  -- b, z and h are what the code found of the lengths of what any session is lent, of all lengths, and of the session
+  module _ (b z h : Bool) (is-lent : b ≡ all_sized n point gradient hessian step trial scratch) (is-sized : z ≡ all_hold (b ∷ eqb (length new_gradient) n ∷ [])) (is-sound : h ≡ sound s) where
     abbrev found : List Check
-    found = early_checks (b && eqb (length new_gradient) n) h true true
+    found = early_checks z h true true
 
     same_checks : judged found ≡ judged answer_checked
-    same_checks = rw (is-sized, is-sound ∙ sound_is s, and_true (sized n new_gradient))
+    same_checks = rw (is-sized, is-lent, is-sound)
 
     pub judges_not : (r : Refusal) → Err r ≡ judged found
         → Judges (judgement s n F new_gradient point step trial gradient hessian scratch) s point gradient hessian scratch (saying s (Err r)) point gradient hessian scratch

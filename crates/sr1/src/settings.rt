@@ -8,6 +8,7 @@ use kernels::choice::Choice;
 use kernels::{choice, kernel};
 use offer::session::Kind;
 use offer::state;
+use vectors::refusal;
 
 #[derive(Clone, Copy)]
 pub struct Settings {
@@ -83,17 +84,19 @@ impl Settings {
 pub fn in_range(t: Settings) -> bool
     ensures { result ≡ in_range t }
 {
-    choice::in_range(t.choice)
-        && kernel::positive(float::magnitude(t.radius))
-        && kernel::positive(t.eta)
-        && t.eta < 0.01
-        && kernel::positive(t.factor)
-        && t.factor < 1.0
-        && float::finite(t.tol_grad)
-        && 0.0 <= t.tol_grad
-        && state::allowable(t.allowance)
-        && 1 <= t.edition
-        && t.edition <= 2
+    refusal::all_hold(&[
+        choice::in_range(t.choice),
+        kernel::positive(float::magnitude(t.radius)),
+        kernel::positive(t.eta),
+        t.eta < 0.01,
+        kernel::positive(t.factor),
+        t.factor < 1.0,
+        float::finite(t.tol_grad),
+        0.0 <= t.tol_grad,
+        state::allowable(t.allowance),
+        1 <= t.edition,
+        t.edition <= 2,
+    ])
 }
 
 // The fall that the model promises: (−(g·s)) − 0.5·(s·H·s).

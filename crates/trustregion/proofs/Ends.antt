@@ -18,7 +18,6 @@ use Rattle.vectors.proofs.Sizes.{each_holds, vectors_true}
 use Rattle.kernels.proofs.Kernels.{unless_passed, unless_failed}
 use Rattle.offer.specs.Offer.{cost_taken}
 use Rattle.offer.specs.State.{result_of, moved, counted, awaits_derivatives, Promise, promised}
-use Rattle.offer.specs.Session as any
 use Rattle.offer.specs.Calls.{early_checks, replaced, saying}
 use Rattle.offer.specs.declared.state.State.{State}
 use Rattle.offer.specs.declared.state.Phase.TheVariants.{Ready, AwaitingDerivatives}
@@ -35,10 +34,6 @@ use Rattle.trustregion.specs.Laws.{lawful}
 -- what it was asked
 abbrev pub sound_tests : Session → List Bool
 sound_tests = sessions.sound_tests kind
-
-pub sound_is : (s : Session) → any.sound kind s ≡ sound s
-unfolding sound
-sound_is s = refl
 
 -- its count is small
 pub sound_small : (s : Session) → sound s ≡ true → s.state.count ≤ 1000
@@ -81,9 +76,9 @@ module _ (s : Session) (F : Float) (point trial : List Float) (p : Promise) wher
       judge_rejects t e = rw (e, is-count, settles, t) (record { says = refl; leaves_point = refl })
 
 -- b and h are what the code found of the sizes and of the session
-module _ (s : Session) (n : ℕ) (F : Float) (point trial : List Float) (b h : Bool) (is-sized : b ≡ all_hold (size n ∷ sized n point ∷ sized n trial ∷ [])) (is-sound : h ≡ any.sound kind s) where
+module _ (s : Session) (n : ℕ) (F : Float) (point trial : List Float) (b h : Bool) (is-sized : b ≡ all_hold (size n ∷ sized n point ∷ sized n trial ∷ [])) (is-sound : h ≡ sound s) where
   same_checks : judged (early_checks b h true true) ≡ judged (judgement_checks s n point trial)
-  same_checks = rw (is-sized, is-sound ∙ sound_is s)
+  same_checks = rw (is-sized, is-sound)
 
   pub judges_not : (r : Refusal) → Err r ≡ judged (early_checks b h true true) → Judges (judgement s n F point trial) s point (saying s (Err r)) point
   unfolding judgement
@@ -117,9 +112,9 @@ renewal_lengths n G H g h e =
 
 -- b, h, t and d are what the code found of the sizes, the session, its phase and the derivatives
 module _ (s : Session) (n : ℕ) (new_gradient new_hessian gradient hessian : List Float) (b h t d : Bool) (is-sized : b ≡ renewal_sized n new_gradient new_hessian gradient hessian)
-    (is-sound : h ≡ any.sound kind s) (is-turn : t ≡ awaits_derivatives s.state.phase) (is-finite : d ≡ (all_finite new_gradient && all_finite new_hessian)) where
+    (is-sound : h ≡ sound s) (is-turn : t ≡ awaits_derivatives s.state.phase) (is-finite : d ≡ (all_finite new_gradient && all_finite new_hessian)) where
   renewal_asked : judged (early_checks b h t d) ≡ judged (renewal_checks s n new_gradient new_hessian gradient hessian)
-  renewal_asked = rw (is-sized, is-sound ∙ sound_is s, is-turn, is-finite)
+  renewal_asked = rw (is-sized, is-sound, is-turn, is-finite)
 
   pub renews_not : (r : Refusal) → Err r ≡ judged (early_checks b h t d) → Renews (renewal s n new_gradient new_hessian gradient hessian) s gradient hessian (saying s (Err r)) gradient hessian
   unfolding renewal

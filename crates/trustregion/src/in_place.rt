@@ -1,25 +1,13 @@
-// TrustRegion (Nocedal and Wright, Numerical Optimization, section 4.1, algorithm 4.1): its calls on a session that is lent, to be
-// changed in place, in the order of argmin's steps. Nothing is written before the last refusal is decided.
-ghost use Rattle.std.specs.Prelude.{◌≡◌, ◌&&◌, ◌≤◌, length};
-ghost use Rattle.vectors.specs.Vector.{all_finite};
-ghost use Rattle.offer.specs.Offer.{cost_taken};
+// The same calls on a session that is lent, to be changed in place: each keeps what the call by value returns.
 ghost use Rattle.trustregion.specs.Settings.{chosen};
-ghost use Rattle.trustregion.specs.Session as Definition;
-ghost use Rattle.trustregion.specs.Session.{proposal, judgement, renewal_sized, renewal, next_radius};
+ghost use Rattle.trustregion.specs.Session.{proposal, judgement, renewal};
 ghost use Rattle.trustregion.specs.Calls.{Proposes, Judges, Renews};
 
 use crate::session::Session;
-use offer::state::{Phase, Promise, Said};
-use offer::{lent, range, state};
+use crate::trustregion_method;
+use offer::state::Said;
 use vectors::refusal::Refusal;
-use vectors::{refusal, vector};
 
-// 10·2^-52, which argmin writes as ten epsilons.
-const TEN_EPSILONS: f64 = 2.220446049250313e-15;
-
-// ---- propose
-
-// A step and the trial point. The step is promised on its model value and its norm, which are kept until its cost comes.
 pub fn propose(
     s: &mut Session,
     n: usize,
@@ -33,55 +21,9 @@ pub fn propose(
     ensures { Proposes (proposal chosen s.old n point.now gradient.now hessian.now step.old trial.old scratch.old)
         s.old step.old trial.old scratch.old (record { session = s.new; outcome = result }) step.new trial.new scratch.new }
 {
-    s.propose(n, point, gradient, hessian, step, trial, scratch)
-}
-
-// ---- the answer with a cost
-
-// What refusal 4 asks of an answer.
-fn answered(cost: f64, trial: &[f64]) -> bool
-    ensures { result ≡ (all_finite trial.now && cost_taken cost) }
-{
-    vector::all_finite(trial) && range::cost_taken(cost)
-}
-
-// A NaN ratio is not below 0.25, nor above 0.75: it keeps the radius.
-#[tactic(auto, unfolding(crate::specs::Session::next_radius))]
-fn next_radius(ratio: f64, norm: f64, radius: f64, max_radius: f64) -> f64
-    ensures { result ≡ next_radius ratio norm radius max_radius }
-{
-    if ratio < 0.25 {
-        return 0.25 * norm;
-    }
-    if 0.75 < ratio && float::magnitude(norm - radius) <= TEN_EPSILONS {
-        return float::smaller(max_radius, 2.0 * radius);
-    }
-    radius
-}
-
-// The verdict on a trial whose step was promised on a model value and its norm.
-fn judge(
-    s: &mut Session,
-    promise: Promise,
-    answer: f64,
-    point: &mut [f64],
-    trial: &[f64],
-) -> Result<Said, Refusal>
-    requires { (length point.old ≡ length trial.now) × (s.old.state.count ≤ 1000) }
-    ensures { Judges (Definition.judge s.old answer point.old trial.now promise) s.old point.old (record { session = s.new; outcome = result }) point.new }
-{
-    Refusal::Entry.unless(answered(answer, trial))?;
-    let ratio = kernels::reduction_ratio(s.state.cost, answer, s.state.cost, promise.value);
-    let next = next_radius(ratio, promise.norm, s.state.radius, s.settings.max_radius);
-    Refusal::Range.unless(float::finite(next))?;
-    let count = state::counted(answer, s.state.count);
-    if s.settings.eta < ratio {
-        lent::copy(trial, point);
-        s.state = state::moved(s.state, next, answer, Phase::AwaitingDerivatives, count);
-        return Ok(Said::Accepted(ratio));
-    }
-    s.state = state::moved(s.state, next, s.state.cost, Phase::Ready, count);
-    Ok(Said::Rejected(ratio))
+    let after = trustregion_method::proposed(*s, n, point, gradient, hessian, step, trial, scratch);
+    *s = after.session;
+    after.outcome
 }
 
 pub fn answer_cost(
@@ -94,28 +36,9 @@ pub fn answer_cost(
     ensures { Judges (judgement s.old n cost point.old trial.now)
         s.old point.old (record { session = s.new; outcome = result }) point.new }
 {
-    let sized = refusal::vectors(n, point.len(), trial.len());
-    range::verdict(sized, s.is_sound(), true, true)?;
-    let promise = state::promised(s.state.phase)?;
-    judge(s, promise, cost, point, trial)
-}
-
-// ---- the answer with new derivatives
-
-fn renewal_sized(
-    n: usize,
-    new_gradient: &[f64],
-    new_hessian: &[f64],
-    gradient: &[f64],
-    hessian: &[f64],
-) -> bool
-    ensures { result ≡ renewal_sized n new_gradient.now new_hessian.now gradient.now hessian.now }
-{
-    refusal::size(n)
-        && new_gradient.len() == n
-        && new_hessian.len() == n * n
-        && gradient.len() == n
-        && hessian.len() == n * n
+    let after = trustregion_method::judged(*s, n, cost, point, trial);
+    *s = after.session;
+    after.outcome
 }
 
 pub fn answer_derivatives(
@@ -129,12 +52,7 @@ pub fn answer_derivatives(
     ensures { Renews (renewal s.old n new_gradient.now new_hessian.now gradient.old hessian.old)
         s.old gradient.old hessian.old (record { session = s.new; outcome = result }) gradient.new hessian.new }
 {
-    let sized = renewal_sized(n, new_gradient, new_hessian, gradient, hessian);
-    let in_turn = state::awaits_derivatives(s.state.phase);
-    let finite = vector::both_finite(new_gradient, new_hessian);
-    range::verdict(sized, s.is_sound(), in_turn, finite)?;
-    lent::copy(new_gradient, gradient);
-    lent::copy(new_hessian, hessian);
-    s.state = state::moved(s.state, s.state.radius, s.state.cost, Phase::Ready, 0);
-    Ok(Said::Taken)
+    let after = trustregion_method::renewed(*s, n, new_gradient, new_hessian, gradient, hessian);
+    *s = after.session;
+    after.outcome
 }

@@ -8,6 +8,7 @@ use kernels::choice::Choice;
 use kernels::{choice, kernel};
 use offer::session::Kind;
 use offer::state;
+use vectors::refusal;
 
 #[derive(Clone, Copy)]
 pub struct Settings {
@@ -62,13 +63,15 @@ impl Settings {
 pub fn in_range(t: Settings) -> bool
     ensures { result ≡ in_range t }
 {
-    choice::in_range(t.choice)
-        && kernel::positive(t.radius)
-        && kernel::positive(t.max_radius)
-        && float::finite(t.eta)
-        && 0.0 <= t.eta
-        && t.eta < 0.25
-        && state::allowable(t.allowance)
+    refusal::all_hold(&[
+        choice::in_range(t.choice),
+        kernel::positive(t.radius),
+        kernel::positive(t.max_radius),
+        float::finite(t.eta),
+        0.0 <= t.eta,
+        t.eta < 0.25,
+        state::allowable(t.allowance),
+    ])
 }
 
 // The model at the trial: (f + p·g) + 0.5·(p·H·p).

@@ -1,9 +1,9 @@
--- `sr1::in_place::renew` meets its contract. Assumes nothing.
+-- `sr1::sr1_trustregion::renew` meets its contract. Assumes nothing.
 use mathlib.Core.Path.{◌∙◌, ap}
 use Rattle.vectors.specs.Vector.{zeros}
 use Rattle.offer.proofs.Offers.{first_part}
 use Rattle.sr1.proofs.Hessians.{by_residual}
-use Rattle.sr1.proofs.in_place.renew.Goals as goal
+use Rattle.sr1.proofs.sr1_trustregion.renew.Goals as goal
 
 pub returns : goal.returns
 returns c =

@@ -1,9 +1,8 @@
--- `trustregion::in_place::judge` meets its contract. Assumes nothing.
+-- `trustregion::trustregion_method::judge` meets its contract. Assumes nothing.
 use Rattle.vectors.proofs.Sizes.{failed, passed, was_right}
 use Rattle.kernels.proofs.Kernels.{by_check}
-use Rattle.offer.proofs.Counts.{counted_small}
 use Rattle.trustregion.proofs.Ends.{judge_unanswered, judge_far, judge_accepts, judge_rejects}
-use Rattle.trustregion.proofs.in_place.judge.Goals as goal
+use Rattle.trustregion.proofs.trustregion_method.judge.Goals as goal
 
 pub returns-in_err-unless : goal.returns-in_err-unless
 returns-in_err-unless c =
@@ -18,9 +17,12 @@ returns-in_err-unless-2 c =
 pub returns-then-s-ratio : goal.returns-then-s-ratio
 returns-then-s-ratio c =
     judge_accepts _ _ _ _ _ (passed c.answered.ensures (was_right _ _ c.in_ok-unless.ensures)) _ _ c.reduction_ratio-ratio.ensures c.next_radius-next.ensures
-    (passed c.finite.ensures (was_right _ _ c.in_ok-unless-2.ensures)) _ (counted_small _ _ _ c.requires.1 c.counted-count.ensures) _ c.if-s-ratio.true c.requires.0 _ c.copy.ensures c.moved-s.ensures
+    (passed c.finite.ensures (was_right _ _ c.in_ok-unless-2.ensures)) _ c.counted-count.ensures _ c.if-s-ratio.true c.requires.0 _ c.copy.ensures c.moved-s.ensures
 
 pub returns : goal.returns
 returns c =
     judge_rejects _ _ _ _ _ (passed c.answered.ensures (was_right _ _ c.in_ok-unless.ensures)) _ _ c.reduction_ratio-ratio.ensures c.next_radius-next.ensures
-    (passed c.finite.ensures (was_right _ _ c.in_ok-unless-2.ensures)) _ (counted_small _ _ _ c.requires.1 c.counted-count.ensures) _ c.if-s-ratio.false c.moved-s-2.ensures
+    (passed c.finite.ensures (was_right _ _ c.in_ok-unless-2.ensures)) _ c.counted-count.ensures _ c.if-s-ratio.false c.moved-s-2.ensures
+
+pub counted-count-requires : goal.counted-count-requires
+counted-count-requires c = c.requires.1

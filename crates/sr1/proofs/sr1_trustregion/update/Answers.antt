@@ -1,8 +1,8 @@
--- `sr1::in_place::update` meets its contract. Assumes nothing.
+-- `sr1::sr1_trustregion::update` meets its contract. Assumes nothing.
 use Rattle.vectors.proofs.Sizes.{failed, passed, was_right}
 use Rattle.kernels.proofs.Kernels.{by_check}
 use Rattle.sr1.proofs.Hessians.{kept, not_finite, written}
-use Rattle.sr1.proofs.in_place.update.Goals as goal
+use Rattle.sr1.proofs.sr1_trustregion.update.Goals as goal
 
 pub returns-then-not-updates : goal.returns-then-not-updates
 returns-then-not-updates c = kept _ _ _ _ _ _ _ c.dot_any-q.ensures (failed c.updates.ensures c.if-not-updates.true) c.requires.2

@@ -1,11 +1,11 @@
--- `sr1::in_place::lay_residual` meets its contract. The loop's invariant: the first i numbers of z are there. Assumes nothing.
+-- `sr1::sr1_trustregion::lay_residual` meets its contract. The loop's invariant: the first i numbers of z are there. Assumes nothing.
 use mathlib.Core.Path.{◌≡◌, ◌∙◌}
 use borrow.Author.Rules.{rules}
 use Rattle.vectors.specs.Vector.{row}
 use Rattle.vectors.proofs.Sizes.{row_good}
 use Rattle.vectors.proofs.Slots.{filling_more, writing_done}
 use Rattle.sr1.proofs.Hessians.{residual_is}
-use Rattle.sr1.proofs.in_place.lay_residual.Goals as goal
+use Rattle.sr1.proofs.sr1_trustregion.lay_residual.Goals as goal
 
 pub loop-i-preserved : goal.loop-i-preserved
 loop-i-preserved c =

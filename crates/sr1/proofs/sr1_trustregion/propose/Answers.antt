@@ -1,7 +1,7 @@
--- `sr1::in_place::propose` meets its contract. Assumes nothing.
+-- `sr1::sr1_trustregion::propose` meets its contract. Assumes nothing.
 use Rattle.std.proofs.lemmas.Result.{err_from_is_err_and}
 use Rattle.sr1.proofs.Ends.{proposes_not, proposes_done, proposes_so}
-use Rattle.sr1.proofs.in_place.propose.Goals as goal
+use Rattle.sr1.proofs.sr1_trustregion.propose.Goals as goal
 
 pub returns-in_err-proposal : goal.returns-in_err-proposal
 returns-in_err-proposal c =

@@ -1,10 +1,9 @@
--- `sr1::in_place::judge` meets its contract. Assumes nothing.
+-- `sr1::sr1_trustregion::judge` meets its contract. Assumes nothing.
 use Rattle.std.proofs.lemmas.Result.{err_from_is_err_and}
 use Rattle.vectors.proofs.Sizes.{failed, passed, was_right}
 use Rattle.kernels.proofs.Kernels.{by_check}
-use Rattle.offer.proofs.Counts.{counted_small}
 use Rattle.sr1.proofs.Ends.{renew_ready, count_ready, judge_unanswered, judge_far, judge_not_finite, judge_accepts, judge_rejects}
-use Rattle.sr1.proofs.in_place.judge.Goals as goal
+use Rattle.sr1.proofs.sr1_trustregion.judge.Goals as goal
 
 pub returns-in_err-unless : goal.returns-in_err-unless
 returns-in_err-unless c =
@@ -30,14 +29,17 @@ returns-in_err-renew c =
 
 pub returns-then-s-ratio : goal.returns-then-s-ratio
 returns-then-s-ratio c =
-    let a = c.args in
     judge_accepts _ _ _ _ _ _ _ _ _ _ _ (passed c.answered.ensures (was_right _ _ c.in_ok-unless.ensures)) _ _ c.fall_ratio-ratio.ensures c.next_radius-next.ensures
-    (passed c.finite.ensures c.if-not-finite.false) _ _ c.in_ok-renew.ensures.1 c.in_ok-renew.ensures.0 _ (counted_small _ _ _ (count_ready a.s.now a.n a.answer a.new_gradient.now a.point.now a.step.now a.trial.now a.gradient.now a.hessian.now a.scratch.now c.requires) c.counted-count.ensures) _
+    (passed c.finite.ensures c.if-not-finite.false) _ _ c.in_ok-renew.ensures.1 c.in_ok-renew.ensures.0 _ c.counted-count.ensures _
     c.if-s-ratio.true c.requires _ _ c.copy.ensures c.copy-then-s-ratio.ensures c.moved-s.ensures
 
 pub returns : goal.returns
 returns c =
-    let a = c.args in
     judge_rejects _ _ _ _ _ _ _ _ _ _ _ (passed c.answered.ensures (was_right _ _ c.in_ok-unless.ensures)) _ _ c.fall_ratio-ratio.ensures c.next_radius-next.ensures
-    (passed c.finite.ensures c.if-not-finite.false) _ _ c.in_ok-renew.ensures.1 c.in_ok-renew.ensures.0 _ (counted_small _ _ _ (count_ready a.s.now a.n a.answer a.new_gradient.now a.point.now a.step.now a.trial.now a.gradient.now a.hessian.now a.scratch.now c.requires) c.counted-count.ensures) _
+    (passed c.finite.ensures c.if-not-finite.false) _ _ c.in_ok-renew.ensures.1 c.in_ok-renew.ensures.0 _ c.counted-count.ensures _
     c.if-s-ratio.false c.moved-s-2.ensures
+
+pub counted-count-requires : goal.counted-count-requires
+counted-count-requires c =
+    let a = c.args in
+    count_ready a.s.now a.n a.answer a.new_gradient.now a.point.now a.step.now a.trial.now a.gradient.now a.hessian.now a.scratch.now c.requires
