@@ -50,11 +50,8 @@ fn state_in(phase: u64, count: u64, numbers: &[f64; 6]) -> State
         promise,
         norm,
     };
-    State {
-        phase: Phase::from(turn),
-        count,
-        ..state::begin(radius, cost)
-    }
+    let begun = state::begin(radius, cost);
+    state::moved(begun, radius, cost, Phase::from(turn), count)
 }
 
 fn session_at<S: Listed<N>, const N: usize>(

@@ -13,6 +13,7 @@ ghost use Rattle.station.specs.Lists.{lent, held, Same, SameProposal};
 
 use event::Event;
 pub use lists::{Answers, Lists, Proposal};
+use offer::state;
 use offer::state::{Said, State};
 use script::call::Call;
 use script::start::Start;
@@ -208,19 +209,13 @@ impl Session {
                 None => Event::Bad,
             },
             Call::Change(radius, cost, phase) => {
-                self.put(State {
-                    radius,
-                    cost,
-                    phase,
-                    ..self.state()
-                });
+                let was = self.state();
+                self.put(state::moved(was, radius, cost, phase, was.count));
                 Event::Changed
             }
             Call::Count(count) => {
-                self.put(State {
-                    count,
-                    ..self.state()
-                });
+                let was = self.state();
+                self.put(state::moved(was, was.radius, was.cost, was.phase, count));
                 Event::Changed
             }
         }
