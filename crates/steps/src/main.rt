@@ -3,6 +3,8 @@
 // bytes that make no word, end the run with the line `bad input`.
 #![tactic(auto)]
 
+ghost use Rattle.std.specs.Prelude.{◌≤◌};
+
 use case::Workspace;
 use stream::{Over, Page, STDIN_FILENO};
 use vectors::refusal::Refusal;
@@ -24,16 +26,29 @@ fn fill(room: &mut [u8]) -> Result<(), Over> {
     Ok(())
 }
 
-// Reads past so many bytes: room after room, and what is left.
+// Reads past so many bytes: as many of what is left as the room takes, until none is.
 fn skip(room: &mut [u8], count: u64) -> Result<(), Over> {
-    let len = room.len() as u64;
-    if len == 0 {
-        return Err(Over::Short);
+    let mut left = count;
+    while left > 0 {
+        let part = most(room.len(), left);
+        if part == 0 {
+            return Err(Over::Short);
+        }
+        fill(&mut room[..part])?;
+        left -= part as u64;
     }
-    for _ in 0..count / len {
-        fill(room)?;
+    Ok(())
+}
+
+// The smaller of a length and a count.
+fn most(len: usize, count: u64) -> usize
+    ensures { (result ≤ len) × (result ≤ count) }
+{
+    if count < len as u64 {
+        count as usize
+    } else {
+        len
     }
-    fill(&mut room[..(count % len) as usize])
 }
 
 // The next case, at the front of the room; none of one that is longer than the room, and so than any
