@@ -14,6 +14,13 @@ pub struct Input<'a> {
     pub end: usize,
 }
 
+// Where an input is read on, and where what came ends: what can be kept of it and gone back to, while the room holds what it held.
+#[derive(Clone, Copy, Debug, PartialEq, Eq)]
+pub struct Mark {
+    pub at: usize,
+    pub end: usize,
+}
+
 // Why there is no word: the input has ended, or the bytes that are left make none.
 #[derive(Clone, Copy, Debug, PartialEq, Eq)]
 pub enum Over {
@@ -31,6 +38,22 @@ impl Input<'_> {
             at: 0,
             end: 0,
         }
+    }
+
+    pub fn mark(&self) -> Mark
+        ensures { result ≡ record { at = self.now.at; end = self.now.end } }
+    {
+        Mark {
+            at: self.at,
+            end: self.end,
+        }
+    }
+
+    pub fn go_to(&mut self, mark: Mark)
+        ensures { self.new ≡ record self.old { at = mark.at; end = mark.end } }
+    {
+        self.at = mark.at;
+        self.end = mark.end;
     }
 
     // The next word. A room that is used up is filled again first, as far as whole words go, so that

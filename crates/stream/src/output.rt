@@ -24,7 +24,8 @@ impl Page<'_> {
     }
 
     // Puts a text on the page. Where it has no room there, what is on the page leaves first; a text longer
-    // than the page leaves at once.
+    // than the page leaves at once. Inlined always, as words' `put_text` is.
+    #[inline(always)]
     pub fn put_text(&mut self, text: &[u8])
         ensures { Put text.now self.old self.new }
     {
