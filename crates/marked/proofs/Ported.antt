@@ -1,19 +1,24 @@
--- Lemmas that docs/PORT.md names, over the types that the code has now: what a kernel or an elimination comes to, with what it leaves on a refusal too. Assumes nothing.
+-- Lemmas that docs/PORT.md and docs/LANDINGS.md name, over the types that the code has now: what a kernel or an elimination comes to, with what it leaves on a refusal too. Assumes nothing.
 use Rattle.std.proofs.Common.{◌≡◌, refl, sym, ap, subst, ◌∙◌, ℕ, ◌+◌, ◌-◌, ◌<◌, Bool, true, false, cond, List, ◌++◌, length}
 use Rattle.std.specs.Prelude.{Result, Ok, Err}
 use lib.Ieee.{Float, lt}
+use borrow.Author.Tests.{eq-eqb, ne_eqb}
 use Rattle.float.specs.Constants.{nought}
 use Rattle.vectors.specs.Vector.{zeros, weighted}
 use Rattle.vectors.specs.Slots.{slot}
 use Rattle.vectors.specs.Refusal.{Answer, refused, given, stands_for}
 use Rattle.vectors.specs.declared.refusal.Refusal.{Refusal}
 use Rattle.vectors.specs.declared.refusal.Refusal.TheVariants.{Pivot}
-use Rattle.kernels.specs.Kernel.{Made, made, handed_out, Proper, Laid, laid_out, stepped}
+use Rattle.kernels.specs.Kernel.{Made, made, handed_out, Proper, Laid, laid_out, stepped, Lent}
 use Rattle.kernels.specs.declared.kernel.Stepped.{Stepped}
 use Rattle.kernels.specs.Inverse.{Rows, column, columns}
 use Rattle.kernels.specs.CauchyPoint.{cauchy_point}
 use Rattle.kernels.specs.Dogleg.{between, dogleg, dogleg_step, newton, unconstrained}
 use Rattle.kernels.specs.Textbook.{textbook_step, textbook_dogleg}
+use Rattle.kernels.specs.Steihaug.{steihaug}
+use Rattle.kernels.specs.Choice.{known, kernel, door}
+use Rattle.kernels.specs.declared.choice.Choice.{Choice}
+use Rattle.kernels.proofs.Choices.{opened}
 use Rattle.kernels.proofs.Rows.{columns_more}
 use Rattle.kernels.proofs.Doglegs.{dogleg_proper}
 
@@ -77,3 +82,28 @@ module _ (n : ℕ) (radius curvature : Float) (g H w w' : List Float) (r : Resul
 
   pub by_legs : lt nought curvature ≡ true → Laid (between textbook_step n radius g H) r w w' → Laid (textbook_dogleg n radius g H) r w w'
   by_legs t h = by_curvature true t h
+
+-- ---- which kernel a number names, what it laid, and what the sessions' door then laid
+
+module _ (c : Choice) (n : ℕ) (radius : Float) (g H : List Float) (r : Result Stepped Refusal) (w w' : List Float) where
+  abbrev Chosen : Type 0
+  Chosen = Laid (kernel c n radius g H) r w w'
+
+  pub first : c.kernel ≡ 1 → Laid (cauchy_point n radius g H) r w w' → Chosen
+  unfolding kernel
+  first a h = rw (eq-eqb c.kernel 1 a) h
+
+  pub second : (c.kernel ≡ 1 → ⊥) → c.kernel ≡ 2 → c.dogleg ≡ 1 → Laid (dogleg n radius g H) r w w' → Chosen
+  unfolding kernel
+  second a b d h = rw (ne_eqb c.kernel 1 a, eq-eqb c.kernel 2 b, eq-eqb c.dogleg 1 d) h
+
+  pub second_anew : (c.kernel ≡ 1 → ⊥) → c.kernel ≡ 2 → (c.dogleg ≡ 1 → ⊥) → Laid (textbook_dogleg n radius g H) r w w' → Chosen
+  unfolding kernel
+  second_anew a b d h = rw (ne_eqb c.kernel 1 a, eq-eqb c.kernel 2 b, ne_eqb c.dogleg 1 d) h
+
+  pub third : (c.kernel ≡ 1 → ⊥) → (c.kernel ≡ 2 → ⊥) → Laid (steihaug c.epsilon c.limit n radius g H) r w w' → Chosen
+  unfolding kernel
+  third a b h = rw (ne_eqb c.kernel 1 a, ne_eqb c.kernel 2 b) h
+
+  pub through : {s : ℕ} → Lent n (length H) (length g) s (length w) → known c ≡ true → Chosen → Laid (door c n radius g H w) r w w'
+  through l k h = rw (opened c n radius g H w l k) h
