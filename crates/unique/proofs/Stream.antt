@@ -17,7 +17,7 @@ use Rattle.stream.specs.declared.input.Input.{Input}
 use Rattle.stream.specs.declared.input.Over.{Over}
 use Rattle.stream.specs.declared.output.Page.{Page}
 use Rattle.std.specs.Prelude.{Option, Result}
-use Rattle.unique.proofs.Law.{Line, unique, UniqueIn, unique_in, alike, ◌&◌}
+use Rattle.unique.proofs.Law.{Line, equation, unique, UniqueIn, unique_in, alike, ◌&◌}
 use Rattle.stream.specs.contracts as stream
 
 -- a whole number has one count of digits
@@ -68,6 +68,8 @@ table =
     ∷ unique stream.output.Page.put_refused.ended (λ M 𝓤. stream.output.Page.put_refused.spec) (λ w κs a g r. refl) (λ κs a r r₂ s s₂ p q. (refl, λ i. puts _ p q i & tt & tt))
     ∷ unique stream.output.Page.put_named.ended (λ M 𝓤. stream.output.Page.put_named.spec) (λ w κs a g r. refl) (λ κs a r r₂ s s₂ p q. (refl, λ i. puts _ p q i & tt & tt & tt))
     ∷ unique stream.output.Page.put_list.ended (λ M 𝓤. stream.output.Page.put_list.spec) (λ w κs a g r. refl) (λ κs a r r₂ s s₂ p q. (refl, λ i. puts _ p q i & tt & tt & tt))
+    ∷ equation stream.input.Input.mark.ended (λ M 𝓤. stream.input.Input.mark.spec) (λ w κs a g r. refl) (λ κs a s s₂. refl)
+    ∷ unique stream.input.Input.go_to.ended (λ M 𝓤. stream.input.Input.go_to.spec) (λ w κs a g r. refl) (λ κs a r r₂ s s₂ p q. (refl, λ i. alike p q i & tt & tt))
     ∷ unique stream.input.Input.new.ended (λ M 𝓤. stream.input.Input.new.spec) (λ w κs a g r. refl) (λ κs a r r₂ s s₂ p q. (input (alike p.kept q.kept) (alike p.place q.place) (alike p.last q.last), refl))
     ∷ []
 
