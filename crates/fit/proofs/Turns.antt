@@ -24,7 +24,7 @@ use Rattle.fit.specs.declared.Form.{Form}
 use Rattle.fit.specs.declared.Standing.{Standing}
 use Rattle.fit.specs.declared.reading.Part.TheVariants as part
 use Rattle.fit.specs.declared.reading.Held.{Held}
-use Rattle.fit.specs.declared.reading.Script.{Script}
+use Rattle.fit.specs.declared.reading.Reading.{Reading}
 use Rattle.fit.proofs.Words.{came_same, all_same, ends_nothing}
 use Rattle.fit.proofs.Pages.{puts_same}
 
@@ -34,7 +34,7 @@ module _ (n : ℕ) (session : Session) (v : Vectors) (words : List ℕ) (held : 
   comes_call e c told r v' p = rw (length-take-le held.count words within, e) (subst (λ (x : Call). Performed (perform x (at session v)) r v') told p)
 
 -- a turn, from its parts
-pub turned : (f : Form) (standing : Standing) (v : Vectors) {script script' : Script} {page page' : Page} {words' : List ℕ} {held : Held} {after : After} {v' : Vectors} {k : ℕ} {kind : Kind} {last : Bool}
+pub turned : (f : Form) (standing : Standing) (v : Vectors) {script script' : Reading} {page page' : Page} {words' : List ℕ} {held : Held} {after : After} {v' : Vectors} {k : ℕ} {kind : Kind} {last : Bool}
     → kind ≡ kind_of standing.session → Holds (part.Call kind f.n) script script' held words'
     → Performed (comes_to f.n (at standing.session v) (take held.count words') held.ending) after v'
     → Puts (written f.manner standing.trials after.event f.tells_more v') page page'
@@ -52,17 +52,17 @@ turned f standing v {words' = words'} {held = held} {after = after} e h p q c l 
   goes_on = ap not l;
 }
 
-pub turned_kept : {f : Form} {standing : Standing} {script script' : Script} {page page' : Page} {v v' : Vectors} {r : Standing} → Turned f standing script page v r script' page' v' → Kept script page script' page'
+pub turned_kept : {f : Form} {standing : Standing} {script script' : Reading} {page page' : Page} {v v' : Vectors} {r : Standing} → Turned f standing script page v r script' page' v' → Kept script page script' page'
 turned_kept t = record { room = came_same t.how _ t.words _ t.comes; paper = puts_same t.puts }
 
-pub kept_still : {s s₁ s₂ : Script} {p p₁ p₂ : Page} → Kept s p s₁ p₁ → Kept s₁ p₁ s₂ p₂ → Kept s p s₂ p₂
+pub kept_still : {s s₁ s₂ : Reading} {p p₁ p₂ : Page} → Kept s p s₁ p₁ → Kept s₁ p₁ s₂ p₂ → Kept s p s₂ p₂
 kept_still k l = record { room = same_still k.room l.room; paper = same_still k.paper l.paper }
 
-pub kept_by : {script : Script} {page page' : Page} → Same page.bytes page'.bytes → Kept script page script page'
+pub kept_by : {script : Reading} {page page' : Page} → Same page.bytes page'.bytes → Kept script page script page'
 kept_by e = record { room = same refl; paper = e }
 
 -- a run, from its parts
-pub ended : {s₀ s₁ s₂ s₃ : Script} {p p' : Page} → Same s₀.input.room s₁.input.room → Kept s₁ p s₂ p' → Skips s₂ s₃ → Ended s₀ p s₃ p'
+pub ended : {s₀ s₁ s₂ s₃ : Reading} {p p' : Page} → Same s₀.input.room s₁.input.room → Kept s₁ p s₂ p' → Skips s₂ s₃ → Ended s₀ p s₃ p'
 ended e k z = record { over = z.nothing_left; kept = record { room = same_still e (same_still k.room (all_same z.all)); paper = k.paper } }
 
 -- ---- turns come to an end
@@ -89,7 +89,7 @@ some_words n s how [] e running on says so =
     let off : ◌≡◌ {A = ℕ} 1 0 = ap one_if no in omega (arith, off)
 some_words n s how (w ∷ words) e running on says so = omega arith
 
-fewer_left : (how : Option Over) (s : Script) (words : List ℕ) (s' : Script) → Came_to how s words s' → 1 ≤ length words → s'.left < s.left
+fewer_left : (how : Option Over) (s : Reading) (words : List ℕ) (s' : Reading) → Came_to how s words s' → 1 ≤ length words → s'.left < s.left
 fewer_left None s words s' p h = omega (arith, p.fewer, h)
 fewer_left (Some e) s words s' p h = omega (arith, p.read.fewer, h, ends_nothing p.ended)
 
@@ -102,7 +102,7 @@ still_less : (running : Bool) (left' left : ℕ) → (running ≡ true → left'
 still_less true left' left h = omega (arith, h refl)
 still_less false left' left h = omega arith
 
-pub turned_less : {f : Form} {standing : Standing} {script script' : Script} {page page' : Page} {v v' : Vectors} {r : Standing}
+pub turned_less : {f : Form} {standing : Standing} {script script' : Reading} {page page' : Page} {v v' : Vectors} {r : Standing}
     → Turned f standing script page v r script' page' v' → standing.running ≡ true → still r.running script'.left < still standing.running script.left
 turned_less {f} {standing} {script} {script'} {v = v} {r = r} t on =
     rw on

@@ -20,7 +20,7 @@ use Rattle.fit.specs.declared.Manner.{Manner}
 use Rattle.fit.specs.declared.Manner.TheVariants as manner
 use Rattle.fit.specs.declared.Form.{Form}
 use Rattle.fit.specs.declared.Standing.{Standing}
-use Rattle.fit.specs.declared.reading.Script.{Script}
+use Rattle.fit.specs.declared.reading.Reading.{Reading}
 
 -- "Where the input ends behind a whole call", the end; and else what the words of a call ask, which may be odd
 abbrev pub comes_to : (n : ℕ) → Station → (words : List ℕ) → Option Over → Happened
@@ -49,7 +49,7 @@ written manner.Table trials e tells_more v = rows trials e v.point
 
 -- ---- one turn: the words of a call were read, or the script ended; what they come to was written
 
-pub record Turned (f : Form) (at : Standing) (script : Script) (page : Page) (v : Vectors) (r : Standing) (script' : Script) (page' : Page) (v' : Vectors) : Type 0 where
+pub record Turned (f : Form) (at : Standing) (script : Reading) (page : Page) (v : Vectors) (r : Standing) (script' : Reading) (page' : Page) (v' : Vectors) : Type 0 where
   pub words : List ℕ
   pub how : Option Over
   pub event : Event
@@ -65,11 +65,11 @@ pub record Turned (f : Form) (at : Standing) (script : Script) (page : Page) (v 
 abbrev pub SamePage : (page page' : Page) → Type 0
 SamePage page page' = Same page.bytes page'.bytes
 
-pub record Kept (script : Script) (page : Page) (script' : Script) (page' : Page) : Type 0 where
+pub record Kept (script : Reading) (page : Page) (script' : Reading) (page' : Page) : Type 0 where
   pub room : Same script.input.room script'.input.room
   pub paper : SamePage page page'
 
 -- a script was run, and no word of it is left
-pub record Ended (script : Script) (page : Page) (script' : Script) (page' : Page) : Type 0 where
+pub record Ended (script : Reading) (page : Page) (script' : Reading) (page' : Page) : Type 0 where
   pub over : script'.left ≡ 0
   pub kept : Kept script page script' page'

@@ -14,8 +14,8 @@ ghost use Rattle.fit.specs.Meaning as Meaning;
 ghost use Rattle.fit.specs.Meaning.{comes_to, Turned, SamePage, Kept, Ended};
 
 use event::Event;
-pub use reading::Script;
 use reading::{Held, Part};
+pub use reading::{Reading, Script};
 use script::{Place, call, start};
 use station::{After, Answers, Lists, Proposal, Session};
 use stream::{Over, Page};
@@ -45,7 +45,7 @@ struct Standing {
 }
 
 // Runs a script to its end. What follows words that are bad, or a start that is refused, is read past.
-pub fn run(manner: Manner, script: &mut Script<'_>, page: &mut Page<'_>)
+pub fn run(manner: Manner, script: &mut Reading<'_>, page: &mut Page<'_>)
     ensures { Ended script.old page.old script.new page.new }
 {
     let mut words = [0; 4239];
@@ -57,7 +57,7 @@ pub fn run(manner: Manner, script: &mut Script<'_>, page: &mut Page<'_>)
 // The lists of the session, and those that come with answers, each at its own length.
 fn opened(
     manner: Manner,
-    script: &mut Script<'_>,
+    script: &mut Reading<'_>,
     page: &mut Page<'_>,
     words: &mut [u64],
     count: usize,
@@ -142,7 +142,7 @@ fn begin(
 
 fn calls(
     form: Form,
-    script: &mut Script<'_>,
+    script: &mut Reading<'_>,
     page: &mut Page<'_>,
     words: &mut [u64],
     session: Session,
@@ -175,7 +175,7 @@ fn calls(
 // The next call is read, made and written; or the end.
 fn turn(
     form: Form,
-    script: &mut Script<'_>,
+    script: &mut Reading<'_>,
     page: &mut Page<'_>,
     words: &mut [u64],
     at: Standing,

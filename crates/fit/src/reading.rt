@@ -4,12 +4,19 @@ ghost use Rattle.stream.specs.Input.{Begun};
 ghost use Rattle.fit.specs.Reading.{Comes, Fills, Holds, Skips, wants, wants_more, is_end};
 
 use script::{Kind, call, start};
-use stream::{Input, Over};
+use stream::{Input, Over, Reader};
 
 // Where it is read on, and how many words it may still have.
+#[derive(Clone, Copy, Debug, PartialEq, Eq)]
+pub struct Script {
+    pub input: Input,
+    pub left: u64,
+}
+
+// A script with the room that it is read through.
 #[derive(Drop)]
-pub struct Script<'a> {
-    pub input: Input<'a>,
+pub struct Reading<'a> {
+    pub input: Reader<'a>,
     pub left: u64,
 }
 
@@ -36,20 +43,38 @@ impl Held {
     }
 }
 
-impl Script<'_> {
+impl Reading<'_> {
     // A script of so many words.
-    pub fn of(input: Input<'_>, words: u64) -> Script<'_>
+    pub fn of(input: Reader<'_>, words: u64) -> Reading<'_>
         ensures { result ≡ record { input = input.entry; left = words } }
     {
-        Script { input, left: words }
+        Reading { input, left: words }
     }
 
     // A script that goes on to the end of standard input.
-    pub fn whole_input(room: &mut [u8]) -> Script<'_>
+    pub fn whole_input(room: &mut [u8]) -> Reading<'_>
         ensures begun { Begun room.entry result.input }
         ensures endless { result.left ≡ 18446744073709551615 }
     {
-        Script::of(Input::new(room), u64::MAX)
+        Reading::of(Reader::new(room), u64::MAX)
+    }
+
+    // What is left of the script, for as long as the room holds what it holds.
+    pub fn mark(&self) -> Script
+        ensures { result ≡ record { input = record { at = self.now.input.at; end = self.now.input.end }; left = self.now.left } }
+    {
+        Script {
+            input: self.input.mark(),
+            left: self.left,
+        }
+    }
+
+    // Reads on with this script in its place.
+    pub fn go_to(&mut self, script: Script)
+        ensures { self.new ≡ record { input = record self.old.input { at = script.input.at; end = script.input.end }; left = script.left } }
+    {
+        self.input.go_to(script.input);
+        self.left = script.left;
     }
 
     // The next word, or how the script ended.

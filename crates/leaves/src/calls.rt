@@ -1,10 +1,10 @@
 // The calls that come to a list. What is lent begins as +0.
 use crate::{lines, lists};
-use stream::{Input, Page};
+use stream::{Page, Reader};
 use vectors::vector;
 
 // 6 product n [H] [d], and the length of the lent output
-pub fn product(input: &mut Input<'_>, page: &mut Page<'_>) -> Option<()> {
+pub fn product(input: &mut Reader<'_>, page: &mut Page<'_>) -> Option<()> {
     let mut h = [0.0; 8192];
     let mut d = [0.0; 8192];
     let mut out = [0.0; 8704];
@@ -18,7 +18,7 @@ pub fn product(input: &mut Input<'_>, page: &mut Page<'_>) -> Option<()> {
 }
 
 // 7 inverse n [H], and the lengths of the lent output and scratch
-pub fn inverse(input: &mut Input<'_>, page: &mut Page<'_>) -> Option<()> {
+pub fn inverse(input: &mut Reader<'_>, page: &mut Page<'_>) -> Option<()> {
     let mut h = [0.0; 8192];
     let mut out = [0.0; 8704];
     let mut scratch = [0.0; 8704];
@@ -32,7 +32,7 @@ pub fn inverse(input: &mut Input<'_>, page: &mut Page<'_>) -> Option<()> {
 }
 
 // 8 row n [H] i
-pub fn row(input: &mut Input<'_>, page: &mut Page<'_>) -> Option<()> {
+pub fn row(input: &mut Reader<'_>, page: &mut Page<'_>) -> Option<()> {
     let mut h = [0.0; 8192];
     let n = lists::size(input)?;
     let h = lists::list(input, &mut h)?;

@@ -9,10 +9,10 @@ mod lines;
 mod lists;
 mod numbers;
 
-use stream::{Input, Over, Page};
+use stream::{Over, Page, Reader};
 
 // One call, by its number.
-fn call(number: u64, input: &mut Input<'_>, page: &mut Page<'_>) -> Option<()> {
+fn call(number: u64, input: &mut Reader<'_>, page: &mut Page<'_>) -> Option<()> {
     match number {
         6 => calls::product(input, page),
         7 => calls::inverse(input, page),
@@ -26,7 +26,7 @@ fn call(number: u64, input: &mut Input<'_>, page: &mut Page<'_>) -> Option<()> {
 
 // Call after call, up to the end; none where the input is bad. A proved loop has to end, and nothing says
 // that an input does: the calls are counted up to a number that no run reaches.
-fn run(input: &mut Input<'_>, page: &mut Page<'_>) -> Option<()> {
+fn run(input: &mut Reader<'_>, page: &mut Page<'_>) -> Option<()> {
     for _ in 0..u64::MAX {
         match input.next_word() {
             Ok(number) => call(number, input, page)?,
@@ -40,7 +40,7 @@ fn run(input: &mut Input<'_>, page: &mut Page<'_>) -> Option<()> {
 fn main() {
     let mut room = io::large_buffer();
     let mut bytes = io::large_buffer();
-    let mut input = Input::new(&mut room);
+    let mut input = Reader::new(&mut room);
     let mut page = Page::new(&mut bytes);
     if run(&mut input, &mut page).is_none() {
         page.put_text(b"bad input\n");

@@ -3,12 +3,12 @@
 // bytes in the place of a length that make no word end the run with the line `bad input`.
 #![tactic(auto)]
 
-use fit::{Manner, Script};
-use stream::{Input, Over, Page};
+use fit::{Manner, Reading};
+use stream::{Over, Page, Reader};
 
 // Script after script on one input, until no length comes. A proved loop has to end, and nothing says
 // that an input does: it has more turns than any run takes.
-fn scripts(script: &mut Script<'_>, page: &mut Page<'_>) -> Result<(), Over> {
+fn scripts(script: &mut Reading<'_>, page: &mut Page<'_>) -> Result<(), Over> {
     for _ in 0..u64::MAX {
         script.left = script.input.next_word()?;
         fit::run(Manner::Lines, script, page);
@@ -19,7 +19,7 @@ fn scripts(script: &mut Script<'_>, page: &mut Page<'_>) -> Result<(), Over> {
 fn main() {
     let mut room = io::large_buffer();
     let mut bytes = io::large_buffer();
-    let mut script = Script::of(Input::new(&mut room), 0);
+    let mut script = Reading::of(Reader::new(&mut room), 0);
     let mut page = Page::new(&mut bytes);
     if scripts(&mut script, &mut page) == Err(Over::Short) {
         page.put_text(b"bad input\n");

@@ -6,11 +6,11 @@ use lib.ListN.{set, length-append, drop_of_length-le}
 use lib.Seq.{drop_at, length-take-le, drop-cons, set_at, append_snoc}
 use Rattle.words.specs.Words.{word_at}
 use Rattle.stream.specs.Input.{Same, Found, next_by, Next, number_of, NextNumber, numbers_at, Fills}
-use Rattle.stream.specs.declared.input.Input.{Input}
+use Rattle.stream.specs.declared.input.Reader.{Reader}
 use Rattle.stream.proofs.Found.{held_there, there, same, same_still, next_same}
 
 -- a number that the room holds is read from there
-module _ {i i' : Input} {y : Option Float} (x : NextNumber i i' y) (fits : i.at + 8 ≤ i.end) where
+module _ {i i' : Reader} {y : Option Float} (x : NextNumber i i' y) (fits : i.at + 8 ≤ i.end) where
   pub from_room : Found i i' x.word
   unfolding Next next_by
   from_room = rw (lt-ltb i.at i.end (omega arith)) at x.next
@@ -35,23 +35,23 @@ numbers_more room at k out x h e =
     rw (drop-cons out k nan h, set_at (numbers_at room at k) (get_or out k nan) (drop (suc k) out) x k (length_numbers room at k), e, append_snoc)
 
 -- k numbers of a list have been read
-pub record Filling (i₀ : Input) (out₀ : List Float) (k : ℕ) (i : Input) (out : List Float) : Type 0 where
+pub record Filling (i₀ : Reader) (out₀ : List Float) (k : ℕ) (i : Reader) (out : List Float) : Type 0 where
   pub same : Same i₀.room i.room
   pub room : i₀.at + 8 * length out₀ ≤ i₀.end → i.room ≡ i₀.room
   pub read : i₀.at + 8 * length out₀ ≤ i₀.end → out ≡ numbers_at i₀.room.now i₀.at k ++ drop k out₀
   pub place : i₀.at + 8 * length out₀ ≤ i₀.end → i.at ≡ i₀.at + 8 * k
   pub last : i₀.at + 8 * length out₀ ≤ i₀.end → i.end ≡ i₀.end
 
-pub filling_none : (i : Input) (out : List Float) → Filling i out 0 i out
+pub filling_none : (i : Reader) (out : List Float) → Filling i out 0 i out
 unfolding numbers_at
 filling_none i out = record { same = same refl; room = λ h. refl; read = λ h. refl; place = λ h. omega arith; last = λ h. refl }
 
-module _ {i₀ : Input} {out₀ : List Float} {k : ℕ} {i : Input} {out : List Float} (less : k < length out₀) (f : Filling i₀ out₀ k i out) where
+module _ {i₀ : Reader} {out₀ : List Float} {k : ℕ} {i : Reader} {out : List Float} (less : k < length out₀) (f : Filling i₀ out₀ k i out) where
   -- the next number is in the room too
   in_room : i₀.at + 8 * length out₀ ≤ i₀.end → i.at + 8 ≤ i.end
   in_room h = omega (arith, f.place h, f.last h)
 
-  pub filling_more : {i' : Input} {x : Float} → NextNumber i i' (Some x) → Filling i₀ out₀ (k + 1) i' (set out k x)
+  pub filling_more : {i' : Reader} {x : Float} → NextNumber i i' (Some x) → Filling i₀ out₀ (k + 1) i' (set out k x)
   filling_more {i'} {x} read = record {
     same = same_still f.same (next_same _ _ _ read.next);
     room = λ h. (from_room read (in_room h)).kept ∙ f.room h;
@@ -66,18 +66,18 @@ module _ {i₀ : Input} {out₀ : List Float} {k : ℕ} {i : Input} {out : List 
   }
 
   -- no number comes only where the room does not hold them all
-  pub not_all : {i' : Input} → NextNumber i i' None → i₀.at + 8 * length out₀ ≤ i₀.end → ⊥
+  pub not_all : {i' : Reader} → NextNumber i i' None → i₀.at + 8 * length out₀ ≤ i₀.end → ⊥
   not_all read h = let some = number_held read (in_room h) in let no : ◌≡◌ {A = ℕ} 0 1 = cc in omega arith
 
 -- the front of a list was filled, or as much of it as came
-module _ (i : Input) (out : List Float) (count : ℕ) (there : count ≤ length out) where
+module _ (i : Reader) (out : List Float) (count : ℕ) (there : count ≤ length out) where
   pub front_long : length (take count out) ≡ count
   front_long = length-take-le count out there
 
   rest_kept : (items : List Float) → length items ≡ length (take count out) → drop count (items ++ drop count out) ≡ drop count out
   rest_kept items long = drop_at items (drop count out) count (long ∙ front_long)
 
-  pub fills_all : {i' : Input} {items : List Float} → length items ≡ length (take count out) → Filling i (take count out) count i' items
+  pub fills_all : {i' : Reader} {items : List Float} → length items ≡ length (take count out) → Filling i (take count out) count i' items
       → Fills i out count i' (items ++ drop count out) (Some tt)
   fills_all {i'} {items} long f =
       let all : length (take count out) ≤ count = omega (arith, front_long) in
@@ -96,7 +96,7 @@ module _ (i : Input) (out : List Float) (count : ℕ) (there : count ≤ length 
         };
       }
 
-  pub fills_some : {k : ℕ} {i₁ i' : Input} {items₁ : List Float} → k < length (take count out) → (items : List Float) → length items ≡ length (take count out)
+  pub fills_some : {k : ℕ} {i₁ i' : Reader} {items₁ : List Float} → k < length (take count out) → (items : List Float) → length items ≡ length (take count out)
       → Filling i (take count out) k i₁ items₁ → NextNumber i₁ i' None → Fills i out count i' (items ++ drop count out) None
   fills_some less items long f read =
       record {

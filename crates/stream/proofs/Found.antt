@@ -10,7 +10,7 @@ use Rattle.std.specs.Borrow.{MutBor}
 use lib.Ieee.{Float}
 use Rattle.words.specs.Words.{word_at}
 use Rattle.stream.specs.Input.{held, after, came, Same, Found, Refilled, next_by, Next, number_of}
-use Rattle.stream.specs.declared.input.Input.{Input}
+use Rattle.stream.specs.declared.input.Reader.{Reader}
 use Rattle.stream.specs.declared.input.Over.{Over}
 use Rattle.stream.specs.declared.input.Over.TheVariants.{End, Short}
 
@@ -56,12 +56,12 @@ unfolding refill
 none_came zero d e = (refl, cc)
 none_came (suc n) d e = let not_so : Err d ≡ Ok tt = rw (ne_eqb (suc n) 0 (omega arith)) at e in let no : ◌≡◌ {A = ℕ} 0 1 = cc in absurd (omega arith)
 
-module _ {i i' : Input} {w : Result ℕ Over} where
+module _ {i i' : Reader} {w : Result ℕ Over} where
   pub next_found : i.at < i.end → Found i i' w → Next i i' w
   unfolding Next next_by
   next_found more found = rw (lt-ltb i.at i.end more) found
 
-  pub next_came : i.end ≤ i.at → {s : Input} → Refilled i s (Ok tt) → Found s i' w → Next i i' w
+  pub next_came : i.end ≤ i.at → {s : Reader} → Refilled i s (Ok tt) → Found s i' w → Next i i' w
   unfolding Next next_by came refill
   next_came none {s} r f =
       let fresh : w ≡ held i'.room.now 0 i'.end = f.found ∙ rw (r.place, f.kept, f.last) in
@@ -74,7 +74,7 @@ module _ {i i' : Input} {w : Result ℕ Over} where
         place = place;
       })
 
-pub next_none : {i i' : Input} {e : Over} → i.end ≤ i.at → Refilled i i' (Err e) → Next i i' (Err e)
+pub next_none : {i i' : Reader} {e : Over} → i.end ≤ i.at → Refilled i i' (Err e) → Next i i' (Err e)
 unfolding Next next_by came after refill
 next_none {i} {i'} {e} none r =
     let n = none_came i'.end e r.some in
@@ -93,7 +93,7 @@ same e = record { lies = ap (λ (b : MutBor (List ℕ)). b.ref_ptr) e; name = ap
 pub same_still : {a b c : MutBor (List ℕ)} → Same a b → Same b c → Same a c
 same_still p q = record { lies = q.lies ∙ p.lies; name = q.name ∙ p.name; long = q.long ∙ p.long }
 
-pub next_same : (i i' : Input) (w : Result ℕ Over) → Next i i' w → Same i.room i'.room
+pub next_same : (i i' : Reader) (w : Result ℕ Over) → Next i i' w → Same i.room i'.room
 unfolding Next next_by
 next_same i i' w next = by_test (ltb i.at i.end) next where
   by_test : (b : Bool) → next_by b i i' w → Same i.room i'.room

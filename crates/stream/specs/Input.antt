@@ -4,7 +4,7 @@ use Rattle.std.specs.Float.{binary64}
 use Rattle.std.specs.Float.Ieee.{of_bits}
 use Rattle.std.specs.Borrow.{MutBor}
 use Rattle.words.specs.Words.{word_at}
-use Rattle.stream.specs.declared.input.Input.{Input}
+use Rattle.stream.specs.declared.input.Reader.{Reader}
 use Rattle.stream.specs.declared.input.Over.{Over}
 
 -- the word at a place, or bytes that make none
@@ -26,38 +26,38 @@ pub record Same (lent lent' : MutBor (List ℕ)) : Type 0 where
   pub long : length lent'.now ≡ length lent.now
 
 -- nothing is in a lent room yet
-pub record Begun (lent : MutBor (List ℕ)) (i : Input) : Type 0 where
+pub record Begun (lent : MutBor (List ℕ)) (i : Reader) : Type 0 where
   pub kept : i.room ≡ lent
   pub place : i.at ≡ 0
   pub last : i.end ≡ 0
 
 -- a read that leaves the room as it is
-pub record Found (i i' : Input) (w : Result ℕ Over) : Type 0 where
+pub record Found (i i' : Reader) (w : Result ℕ Over) : Type 0 where
   pub kept : i'.room ≡ i.room
   pub found : w ≡ held i.room.now i.at i.end
   pub place : i'.at ≡ after i.at i.end
   pub last : i'.end ≡ i.end
 
 -- a room was filled anew, with nothing at the end
-pub record Refilled (i i' : Input) (r : Result (Unit {0}) Over) : Type 0 where
+pub record Refilled (i i' : Reader) (r : Result (Unit {0}) Over) : Type 0 where
   pub same : Same i.room i'.room
   pub place : i'.at ≡ 0
   pub within : i'.end ≤ length i.room.now
   pub some : r ≡ cond (eqb i'.end 0) (Err Over.End) (Ok tt)
 
 -- a read that fills the room anew
-pub record Came (i i' : Input) (w : Result ℕ Over) : Type 0 where
+pub record Came (i i' : Reader) (w : Result ℕ Over) : Type 0 where
   pub same : Same i.room i'.room
   pub within : i'.end ≤ length i.room.now
   pub found : w ≡ came i'.room.now i'.end
   pub place : i'.at ≡ after 0 i'.end
 
-unfoldable pub next_by : Bool → (i i' : Input) → Result ℕ Over → Type 0
+unfoldable pub next_by : Bool → (i i' : Reader) → Result ℕ Over → Type 0
 next_by true i i' w = Found i i' w
 next_by false i i' w = Came i i' w
 
 -- a word was read: from the room, while it has bytes to read, and then from the room filled anew
-unfoldable pub Next : (i i' : Input) → Result ℕ Over → Type 0
+unfoldable pub Next : (i i' : Reader) → Result ℕ Over → Type 0
 unfolding next_by
 Next i i' w = next_by (ltb i.at i.end) i i' w
 
@@ -67,7 +67,7 @@ number_of (Ok bits) = Some (of_bits binary64 bits)
 number_of (Err e) = None
 
 -- a number was read
-pub record NextNumber (i i' : Input) (x : Option Float) : Type 0 where
+pub record NextNumber (i i' : Reader) (x : Option Float) : Type 0 where
   pub word : Result ℕ Over
   pub next : Next i i' word
   pub number : x ≡ number_of word
@@ -78,7 +78,7 @@ numbers_at room at zero = []
 numbers_at room at (suc k) = numbers_at room at k ++ (of_bits binary64 (word_at room (at + 8 * k)) ∷ [])
 
 -- a list of numbers was read from a room that holds them all
-pub record Whole (i : Input) (out : List Float) (count : ℕ) (i' : Input) (out' : List Float) (r : Option (Unit {0})) : Type 0 where
+pub record Whole (i : Reader) (out : List Float) (count : ℕ) (i' : Reader) (out' : List Float) (r : Option (Unit {0})) : Type 0 where
   pub kept : i'.room ≡ i.room
   pub read : out' ≡ numbers_at i.room.now i.at count ++ drop count out
   pub place : i'.at ≡ i.at + 8 * count
@@ -86,13 +86,13 @@ pub record Whole (i : Input) (out : List Float) (count : ℕ) (i' : Input) (out'
   pub all : r ≡ Some tt
 
 -- nothing was read, for want of a place to put it
-pub record Refused (i : Input) (out : List Float) (i' : Input) (out' : List Float) (r : Option (Unit {0})) : Type 0 where
+pub record Refused (i : Reader) (out : List Float) (i' : Reader) (out' : List Float) (r : Option (Unit {0})) : Type 0 where
   pub kept : i' ≡ i
   pub left : out' ≡ out
   pub refused : r ≡ None
 
 -- a list of numbers was read to the front of another
-pub record Fills (i : Input) (out : List Float) (count : ℕ) (i' : Input) (out' : List Float) (r : Option (Unit {0})) : Type 0 where
+pub record Fills (i : Reader) (out : List Float) (count : ℕ) (i' : Reader) (out' : List Float) (r : Option (Unit {0})) : Type 0 where
   pub same : Same i.room i'.room
   pub rest : drop count out' ≡ drop count out
   pub too_long : length out < count → Refused i out i' out' r

@@ -6,17 +6,17 @@ ghost use Rattle.stream.specs.Input.{held as Input·held};
 // Where the system has standard input.
 pub const STDIN_FILENO: i32 = 0;
 
-// A lent room that is filled with what comes, whose bytes from `at` up to `end` are still to be read.
-#[derive(Drop)]
-pub struct Input<'a> {
-    pub room: &'a mut [u8],
+// The bytes of a room that are still to be read: those from `at` up to `end`.
+#[derive(Clone, Copy, Debug, PartialEq, Eq)]
+pub struct Input {
     pub at: usize,
     pub end: usize,
 }
 
-// Where an input is read on, and where what came ends: what can be kept of it and gone back to, while the room holds what it held.
-#[derive(Clone, Copy, Debug, PartialEq, Eq)]
-pub struct Mark {
+// An input with its room, which is lent and filled with what comes.
+#[derive(Drop)]
+pub struct Reader<'a> {
+    pub room: &'a mut [u8],
     pub at: usize,
     pub end: usize,
 }
@@ -28,32 +28,34 @@ pub enum Over {
     Short,
 }
 
-impl Input<'_> {
+impl Reader<'_> {
     // Nothing is in the room yet.
-    pub fn new(room: &mut [u8]) -> Input<'_>
+    pub fn new(room: &mut [u8]) -> Reader<'_>
         ensures { Begun room.entry result }
     {
-        Input {
+        Reader {
             room,
             at: 0,
             end: 0,
         }
     }
 
-    pub fn mark(&self) -> Mark
+    // What is still to be read, for as long as the room holds what it holds.
+    pub fn mark(&self) -> Input
         ensures { result ≡ record { at = self.now.at; end = self.now.end } }
     {
-        Mark {
+        Input {
             at: self.at,
             end: self.end,
         }
     }
 
-    pub fn go_to(&mut self, mark: Mark)
-        ensures { self.new ≡ record self.old { at = mark.at; end = mark.end } }
+    // Reads on with this input in its place.
+    pub fn go_to(&mut self, input: Input)
+        ensures { self.new ≡ record self.old { at = input.at; end = input.end } }
     {
-        self.at = mark.at;
-        self.end = mark.end;
+        self.at = input.at;
+        self.end = input.end;
     }
 
     // The next word. A room that is used up is filled again first, as far as whole words go, so that

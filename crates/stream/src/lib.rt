@@ -7,5 +7,5 @@ mod input;
 mod lines;
 mod output;
 
-pub use input::{Input, Mark, Over, STDIN_FILENO};
+pub use input::{Input, Over, Reader, STDIN_FILENO};
 pub use output::Page;

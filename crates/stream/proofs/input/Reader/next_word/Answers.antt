@@ -1,8 +1,8 @@
--- `Input::next_word` meets its contract. Assumes nothing.
+-- `Reader::next_word` meets its contract. Assumes nothing.
 use Rattle.std.proofs.lemmas.Result.{err_from_is_err_and}
 use Rattle.stream.proofs.Found.{next_found, next_came, next_none}
-use Rattle.stream.proofs.input.Input.next_word.Goals.{then-self+in_ok-refill, else-self}
-use Rattle.stream.proofs.input.Input.next_word.Goals as goal
+use Rattle.stream.proofs.input.Reader.next_word.Goals.{then-self+in_ok-refill, else-self}
+use Rattle.stream.proofs.input.Reader.next_word.Goals as goal
 
 pub returns-in_err-refill : goal.returns-in_err-refill
 returns-in_err-refill c =

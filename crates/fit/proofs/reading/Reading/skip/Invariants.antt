@@ -1,5 +1,5 @@
 use Rattle.fit.proofs.Words.{Passing}
-use Rattle.fit.proofs.reading.Script.skip.Given as goal
+use Rattle.fit.proofs.reading.Reading.skip.Given as goal
 
 abbrev pub invariant-loop-self : goal.invariant-loop-self
 invariant-loop-self l = Passing l.initial.self l.self

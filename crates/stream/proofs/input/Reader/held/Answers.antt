@@ -1,7 +1,7 @@
--- `Input::held` meets its contract. Assumes nothing.
+-- `Reader::held` meets its contract. Assumes nothing.
 use Rattle.std.proofs.Common.{sym, arith, ap, ◌∙◌, Ok}
 use Rattle.stream.proofs.Found.{held_there, held_not}
-use Rattle.stream.proofs.input.Input.held.Goals as goal
+use Rattle.stream.proofs.input.Reader.held.Goals as goal
 
 pub returns-then-saturating_sub-lt8 : goal.returns-then-saturating_sub-lt8
 returns-then-saturating_sub-lt8 c = sym (held_not _ _ _ (omega (arith, c.saturating_sub.ensures)))

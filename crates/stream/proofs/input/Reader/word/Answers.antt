@@ -1,7 +1,7 @@
--- `Input::word` meets its contract. Assumes nothing.
+-- `Reader::word` meets its contract. Assumes nothing.
 use Rattle.std.proofs.Common.{refl, sym, arith, ◌∙◌}
 use Rattle.stream.proofs.Found.{there, not_there}
-use Rattle.stream.proofs.input.Input.word.Goals as goal
+use Rattle.stream.proofs.input.Reader.word.Goals as goal
 
 pub returns-in_default : goal.returns-in_default
 returns-in_default c =

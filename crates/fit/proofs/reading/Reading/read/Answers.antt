@@ -1,7 +1,7 @@
--- `Script::read` meets its contract. Assumes nothing.
+-- `Reading::read` meets its contract. Assumes nothing.
 use Rattle.std.proofs.Common.{arith}
 use Rattle.fit.proofs.Words.{partly_none, partly_more, partly_less, partly_whole}
-use Rattle.fit.proofs.reading.Script.read.Goals as goal
+use Rattle.fit.proofs.reading.Reading.read.Goals as goal
 
 pub loop-held-init : goal.loop-held-init
 loop-held-init c = partly_none _ c.wanted-want.ensures

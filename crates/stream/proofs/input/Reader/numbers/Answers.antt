@@ -1,8 +1,8 @@
--- `Input::numbers` meets its contract. Before each turn the numbers so far have been read. Assumes nothing.
+-- `Reader::numbers` meets its contract. Before each turn the numbers so far have been read. Assumes nothing.
 use Rattle.std.proofs.Common.{◌≡◌, arith, ◌∙◌}
 use lib.ListN.{length-set}
 use Rattle.stream.proofs.Filling.{filling_none, filling_more, front_long, fills_all, fills_some}
-use Rattle.stream.proofs.input.Input.numbers.Goals as goal
+use Rattle.stream.proofs.input.Reader.numbers.Goals as goal
 
 pub loop-x-init : goal.loop-x-init
 loop-x-init c = filling_none _ _

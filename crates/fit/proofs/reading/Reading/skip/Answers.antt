@@ -1,7 +1,7 @@
--- `Script::skip` meets its contract. Assumes nothing.
+-- `Reading::skip` meets its contract. Assumes nothing.
 use Rattle.std.proofs.Common.{arith}
 use Rattle.fit.proofs.Words.{passing_none, passing_more, fewer, passed_by}
-use Rattle.fit.proofs.reading.Script.skip.Goals as goal
+use Rattle.fit.proofs.reading.Reading.skip.Goals as goal
 
 pub loop-self-init : goal.loop-self-init
 loop-self-init c = passing_none

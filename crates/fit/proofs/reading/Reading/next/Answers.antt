@@ -1,7 +1,7 @@
--- `Script::next` meets its contract. Assumes nothing.
+-- `Reading::next` meets its contract. Assumes nothing.
 use Rattle.std.proofs.Common.{arith, refl}
 use Rattle.fit.specs.Reading.{limit, input}
-use Rattle.fit.proofs.reading.Script.next.Goals as goal
+use Rattle.fit.proofs.reading.Reading.next.Goals as goal
 
 pub returns-then-self-eq0 : goal.returns-then-self-eq0
 returns-then-self-eq0 c = limit c.if-self-eq0.true

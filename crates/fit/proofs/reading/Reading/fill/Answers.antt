@@ -1,7 +1,7 @@
--- `Script::fill` meets its contract. Assumes nothing.
+-- `Reading::fill` meets its contract. Assumes nothing.
 use Rattle.std.proofs.Common.{◌≡◌, arith}
 use Rattle.fit.proofs.Words.{filling_none, filling_more, filling_whole, filling_over}
-use Rattle.fit.proofs.reading.Script.fill.Goals as goal
+use Rattle.fit.proofs.reading.Reading.fill.Goals as goal
 
 pub loop-count-init : goal.loop-count-init
 loop-count-init c = filling_none _
