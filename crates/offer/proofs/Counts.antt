@@ -1,16 +1,25 @@
 -- Laws of the count of hidden trials in a row. Assumes nothing.
-use mathlib.Core.Path.{◌≡◌}
-use mathlib.Core.Bool.{Bool, true, false}
-use Prim.Native.Nat.{ℕ, ◌+◌, ◌≤◌}
+use mathlib.Core.Path.{◌≡◌, refl, ◌∙◌}
+use mathlib.Core.Bool.{Bool, true, false, cond}
+use Prim.Native.Nat.{ℕ, ◌+◌, ◌-◌, ◌^◌, ◌≤◌, min}
 use native.Mathlib.Omega.{arith}
 use lib.Dec.{eqb, leb}
+use lib.Ieee.{Float, is_nan}
 use borrow.Author.Tests.{leb-true, eqb-false, le-leb}
 use Rattle.vectors.proofs.Sizes.{both}
-use Rattle.offer.specs.State.{allowable}
+use Rattle.offer.specs.State.{counted, allowable}
 
 -- a count that refusal 2 lets pass is small: one more of it is no word's end
 pub count_small : (allowance count : ℕ) → allowable allowance ≡ true → leb count allowance ≡ true → count ≤ 1000
 count_small allowance count a b = omega (arith, leb-true allowance 1000 (both (leb 1 allowance) (leb allowance 1000) a).1, leb-true count allowance b)
+
+-- where it is, one more answer is counted in full
+pub counted_small : (F : Float) (count x : ℕ) → count ≤ 1000 → x ≡ min (counted F count) (2 ^ 64 - 1) → x ≡ counted F count
+counted_small F count x h e = e ∙ go (is_nan F)
+  where
+    go : (b : Bool) → min (cond b (count + 1) 0) (2 ^ 64 - 1) ≡ cond b (count + 1) 0
+    go true = omega (arith, h)
+    go false = refl
 
 -- what calls go by of a count: whether it is above the allowance, and whether it is there
 abbrev pub level : (allowance count : ℕ) → Bool × Bool

@@ -1,5 +1,5 @@
 // What a session of either kind keeps beside its settings, and what its calls say.
-ghost use Rattle.std.specs.Prelude.{◌≡◌};
+ghost use Rattle.std.specs.Prelude.{◌≡◌, ◌-◌, ◌^◌, min};
 ghost use Rattle.offer.specs.State as Definition;
 ghost use Rattle.offer.specs.State.{result_of};
 
@@ -72,6 +72,17 @@ pub fn in_phase(state: State, phase: Phase) -> State
     State { phase, ..state }
 }
 
+// The count after an answer that is taken: a hidden trial is one more, any other ends the row. A count that was put at the end of
+// its type stays there; no session takes an answer with more than 1,000.
+pub fn counted(cost: f64, count: u64) -> u64
+    ensures { result ≡ min (Definition.counted cost count) (2 ^ 64 - 1) }
+{
+    if float::is_nan(cost) {
+        return count.saturating_add(1);
+    }
+    0
+}
+
 // The most hidden trials in a row that a session may be set to take.
 pub fn allowable(allowance: u64) -> bool
     ensures { result ≡ Definition.allowable allowance }
@@ -109,5 +120,28 @@ pub fn promised(phase: Phase) -> Result<Promise, Refusal>
     match phase {
         Phase::AwaitingCost(value, norm) => Ok(Promise { value, norm }),
         Phase::Ready | Phase::AwaitingDerivatives => Err(Refusal::Turn),
+    }
+}
+
+#[cfg(test)]
+mod tests {
+    use super::*;
+
+    // A hidden trial is one more, up to the last number of the type, where it stays; every other cost, an infinite one too, ends the row.
+    #[test]
+    fn a_row_is_counted(rt: HostRuntime) {
+        let rows = [
+            (f64::NAN, 0, 1),
+            (f64::NAN, 999, 1000),
+            (f64::NAN, u64::MAX - 1, u64::MAX),
+            (f64::NAN, u64::MAX, u64::MAX),
+            (-0.0, 7, 0),
+            (1.5, 0, 0),
+            (f64::INFINITY, 1000, 0),
+            (-1.0, u64::MAX, 0),
+        ];
+        for (cost, count, want) in rows {
+            assert_eq!(rt; counted(cost, count), want, "after {count} hidden trials");
+        }
     }
 }

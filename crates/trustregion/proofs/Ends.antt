@@ -18,6 +18,7 @@ use Rattle.vectors.proofs.Sizes.{each_holds, vectors_true}
 use Rattle.kernels.proofs.Kernels.{unless_passed, unless_failed}
 use Rattle.offer.specs.Offer.{cost_taken}
 use Rattle.offer.specs.State.{result_of, moved, counted, awaits_derivatives, Promise, promised}
+use Rattle.offer.specs.Session as any
 use Rattle.offer.specs.Calls.{early_checks, replaced, saying}
 use Rattle.offer.specs.declared.state.State.{State}
 use Rattle.offer.specs.declared.state.Phase.TheVariants.{Ready, AwaitingDerivatives}
@@ -34,6 +35,10 @@ use Rattle.trustregion.specs.Laws.{lawful}
 -- what it was asked
 abbrev pub sound_tests : Session → List Bool
 sound_tests = sessions.sound_tests kind
+
+pub sound_is : (s : Session) → any.sound kind s ≡ sound s
+unfolding sound
+sound_is s = refl
 
 -- its count is small
 pub sound_small : (s : Session) → sound s ≡ true → s.state.count ≤ 1000

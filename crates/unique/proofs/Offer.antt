@@ -35,6 +35,7 @@ table =
     ∷ equation state.begin.ended (λ M 𝓤. state.begin.spec) (λ w κs a g r. refl) (λ κs a s s₂. refl)
     ∷ equation state.moved.ended (λ M 𝓤. state.moved.spec) (λ w κs a g r. refl) (λ κs a s s₂. refl)
     ∷ equation state.in_phase.ended (λ M 𝓤. state.in_phase.spec) (λ w κs a g r. refl) (λ κs a s s₂. refl)
+    ∷ equation state.counted.ended (λ M 𝓤. state.counted.spec) (λ w κs a g r. refl) (λ κs a s s₂. refl)
     ∷ equation state.allowable.ended (λ M 𝓤. state.allowable.spec) (λ w κs a g r. refl) (λ κs a s s₂. refl)
     ∷ equation state.steady.ended (λ M 𝓤. state.steady.spec) (λ w κs a g r. refl) (λ κs a s s₂. refl)
     ∷ equation state.is_ready.ended (λ M 𝓤. state.is_ready.spec) (λ w κs a g r. refl) (λ κs a s s₂. refl)
